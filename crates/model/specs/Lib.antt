@@ -1,0 +1,12 @@
+pub mod Classes
+pub mod Maps
+pub mod Pages
+pub mod State
+pub mod Units
+pub mod Making
+pub mod Refusals
+pub mod Calls
+pub mod Graph
+pub mod Runs
+pub mod Law
+pub mod Worked
