@@ -1,7 +1,7 @@
 -- What each granted call makes of the store, and what it answers.
 use mathlib.Core.List.{List, [], _∷_}
 use mathlib.Core.Bool.{Bool, true, false, cond}
-use Prim.Native.Nat.{ℕ, zero, suc, _+_, _-_}
+use Prim.Native.Nat.{ℕ, zero, suc, _+_}
 use lib.Dec.{eqb}
 use lib.ListN.{length, getD, set}
 use Rattle.std.specs.declared.option.Option.{Option}
@@ -18,7 +18,7 @@ use Rattle.holders.specs.Keys.{spare-of}
 use Rattle.model.specs.Classes.{fitting}
 use Rattle.model.specs.Pages.{Block, block-at, put-block, current, refs-of, words-of, count-pages, is-uncut, current-blocks, husks}
 use Rattle.model.specs.State.{roots, running, Heap, State, with-heap, with-pages}
-use Rattle.model.specs.Units.{with-refs, steps}
+use Rattle.model.specs.Units.{with-refs, steps, done-in}
 use Rattle.model.specs.Making.{barrier, overwrite, page-for, ready-pages, free-number, with-new}
 use Rattle.model.specs.Refusals.{place, block-in, first-keyed, refusal}
 
@@ -104,7 +104,7 @@ reply (Schedule t p) s = answer.Done
 reply (Next p) s = if-some (first-keyed (s .keys)) (λ k. answer.Time (k .0 .time)) answer.Done
 reply Begin s = answer.Done
 reply (Step u) s =
-    let t = steps u s in answer.Progress (t .heap .units - s .heap .units) (t .heap .units) (running (t .heap .phase))
+    let t = steps u s in answer.Progress (done-in u s) (t .heap .units) (running (t .heap .phase))
 reply Count s =
     answer.Counts (current-blocks (s .heap .pages)) (husks (s .heap .pages))
     (count-pages is-uncut (s .heap .pages)) (count-pages (λ p. p .closed) (s .heap .pages))

@@ -1,7 +1,7 @@
 -- The law: what a store promises after every list of calls.
 use mathlib.Core.Path.{_≡_}
 use mathlib.Core.Logic.{_⊎_}
-use mathlib.Core.List.{List, [], _∷_}
+use mathlib.Core.List.{List, [], _∷_, _++_}
 use mathlib.Core.Bool.{Bool, true, false, cond}
 use Prim.Native.Nat.{ℕ, _+_, _-_, _*_, _<_, _≤_}
 use lib.Dec.{eqb}
@@ -14,7 +14,7 @@ use Rattle.calls.specs.declared.Refusal.{Refusal}
 use Rattle.calls.specs.declared.Refusal.the-variants.{NoRoom, CollectionRuns, NoCollection}
 use Rattle.holders.specs.declared.key.Key.{Key}
 use Rattle.model.specs.Pages.{Block, block-at, current}
-use Rattle.model.specs.State.{running}
+use Rattle.model.specs.State.{running, State}
 use Rattle.model.specs.Units.{steps}
 use Rattle.model.specs.Refusals.{conditions, refusal}
 use Rattle.model.specs.Calls.{reply, apply}
@@ -133,3 +133,10 @@ pub record Upheld (r : Run) : Type 0 where
 -- for every number of places of holder and agenda from 1 to 128, and every list of calls from a fresh store
 abbrev pub Law : Type 0
 Law = (h a : ℕ) → 1 ≤ h → h ≤ 128 → 1 ≤ a → a ≤ 128 → (cs : List Call) → Upheld (run-from (start h a) cs)
+
+-- a call that leads from state `s` to state `t` is lawful: for every list of calls that leads from a fresh store to `s`,
+-- the list with this call added leads to `t`, and the law holds of it
+abbrev pub Lawful : ℕ → ℕ → Call → State → State → Type 0
+Lawful h a c s t =
+    (cs : List Call) → run-from (start h a) cs .state ≡ s →
+    (run-from (start h a) (cs ++ c ∷ []) .state ≡ t) × Upheld (run-from (start h a) (cs ++ c ∷ []))

@@ -174,7 +174,12 @@ by-phase s (moving k source targets) = with-heap s (move-unit (s .heap) k source
 abbrev pub unit : State → State
 unit s = with-heap (by-phase s (s .heap .phase)) (one-more (by-phase s (s .heap .phase) .heap))
 
--- units until `u` are done or the collection ends
+-- the units of a step of `u`: they are done until `u` are done or the collection ends
 abbrev pub steps : ℕ → State → State
 steps zero s = s
 steps (suc u) s = cond (running (s .heap .phase)) (steps u (unit s)) s
+
+-- how many units such a step does
+abbrev pub done-in : ℕ → State → ℕ
+done-in zero s = 0
+done-in (suc u) s = cond (running (s .heap .phase)) (suc (done-in u (unit s))) 0
