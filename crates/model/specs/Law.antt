@@ -134,9 +134,8 @@ pub record Upheld (r : Run) : Type 0 where
 abbrev pub Law : Type 0
 Law = (h a : ℕ) → 1 ≤ h → h ≤ 128 → 1 ≤ a → a ≤ 128 → (cs : List Call) → Upheld (run-from (start h a) cs)
 
--- a call that leads from state `s` to state `t` is lawful: for every list of calls that leads from a fresh store to `s`,
--- the list with this call added leads to `t`, and the law holds of it
-abbrev pub Lawful : ℕ → ℕ → Call → State → State → Type 0
-Lawful h a c s t =
-    (cs : List Call) → run-from (start h a) cs .state ≡ s →
-    (run-from (start h a) (cs ++ c ∷ []) .state ≡ t) × Upheld (run-from (start h a) (cs ++ c ∷ []))
+-- a call that leads from state `s` to state `t` is lawful: every list of calls that leads from a fresh store to `s`
+-- leads to `t` with this call added, and the law holds of the longer list
+pub record Lawful (h a : ℕ) (c : Call) (s t : State) : Type 0 where
+  pub leads : (cs : List Call) → run-from (start h a) cs .state ≡ s → run-from (start h a) (cs ++ c ∷ []) .state ≡ t
+  pub upheld : (cs : List Call) → run-from (start h a) cs .state ≡ s → Upheld (run-from (start h a) (cs ++ c ∷ []))

@@ -1,0 +1,7 @@
+pub mod Table
+pub mod Counts
+pub mod Sound
+pub mod View
+pub mod Moving
+pub mod Making
+pub mod Joins

@@ -1,0 +1,5 @@
+pub mod Heaps
+pub mod Changes
+pub mod Tallies
+pub mod Agendas
+pub mod Sounds

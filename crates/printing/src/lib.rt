@@ -1,0 +1,3 @@
+// Calls and replies as bytes.
+mod digits;
+pub mod lines;

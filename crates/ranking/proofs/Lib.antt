@@ -1,0 +1,3 @@
+pub mod Orders
+pub mod Leasts
+pub mod Candidates

@@ -1,0 +1,9 @@
+use Rattle.theory.proofs.Lawful.{lawful}
+use Rattle.store.proofs.store.StoreRecords.clear.Needs as need
+
+pub returns : need.returns
+returns g c = record {
+  answer = c .clear .ensures .answer;
+  after = c .clear .ensures .after;
+  lawful = lawful _ _ _ _ _ (g .H·Holder·met .some) (g .H·Holder·met .few) (g .A·Holder·met .some) (g .A·Holder·met .few) (c .clear .ensures .after);
+}
