@@ -25,3 +25,13 @@ middle() { # PROGRAM [ARGUMENT]
 }
 
 echo "100,000 lines, middle of three runs: quayrun $(middle "$quayrun") ms, reference $(middle "$build/reference" store) ms, plain $(middle "$build/plain") ms"
+
+# A full store collected unit by unit, each unit a line that is answered before the next is sent.
+rustc -O --edition 2021 "$here/longest.rs" -o "$build/longest"
+{
+    "$build/generate" full 1 3000 | head -c -1
+    echo
+    echo B
+    for _ in $(seq 1 4000); do printf 'G\t1\n'; done
+} >"$build/units-script"
+"$build/longest" "$quayrun" "$build/units-script"
