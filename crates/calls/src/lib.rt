@@ -2,6 +2,8 @@
 ghost use mathlib.Core.Path.{_≡_};
 ghost use Rattle.calls.specs.Numbers.{letter-of, number-of};
 
+pub mod results;
+
 // The fourteen calls. Places, references, words and units are counted from 0; a place is one of the holder's.
 #[derive(Clone, Copy)]
 pub enum Call {

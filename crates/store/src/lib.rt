@@ -1,4 +1,3 @@
 // The record store: fourteen calls over any holder and any agenda, with the law on their contracts.
-mod answers;
 pub mod records;
 pub mod store;
