@@ -1,0 +1,4 @@
+pub mod Numbered
+pub mod Writing
+pub mod Sifting
+pub mod Granted
