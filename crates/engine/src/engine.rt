@@ -1,21 +1,21 @@
 // A collector with any holder and any agenda: the calls.
 ghost use Rattle.collector.specs.View.{heap-of};
-ghost use Rattle.engine.specs.Parts.{together};
-use crate::parts::first_keyed;
-use crate::parts::found;
-use crate::parts::full;
-use crate::parts::lacks_reference;
-use crate::parts::lacks_word;
-use crate::parts::outside;
-use crate::parts::overwrite;
-use crate::parts::too_large;
+ghost use Rattle.operations.specs.Parts.{together};
 use crate::performs::Performs;
-use crate::units::spend;
 use calls::Refusal;
 use collector::collector::Collector;
 use holders::agenda::Agenda;
 use holders::holder::Holder;
 use holders::key::Key;
+use operations::parts::first_keyed;
+use operations::parts::found;
+use operations::parts::full;
+use operations::parts::lacks_reference;
+use operations::parts::lacks_word;
+use operations::parts::outside;
+use operations::parts::overwrite;
+use operations::parts::too_large;
+use operations::units::spend;
 
 #[derive(Drop)]
 pub struct Engine<H: Holder + Drop, A: Agenda + Drop> {

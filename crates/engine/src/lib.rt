@@ -1,6 +1,4 @@
 // The fourteen calls on a collector, a holder and an agenda.
 pub mod engine;
 mod making;
-mod parts;
 pub mod performs;
-mod units;

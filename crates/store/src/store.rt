@@ -2,7 +2,7 @@
 ghost use mathlib.Core.Path.{_≡_};
 ghost use Rattle.model.specs.State.{fresh};
 ghost use Rattle.collector.specs.View.{heap-of};
-ghost use Rattle.engine.specs.Parts.{together};
+ghost use Rattle.operations.specs.Parts.{together};
 use crate::records::Records;
 use calls::Refusal;
 use engine::engine::Engine;

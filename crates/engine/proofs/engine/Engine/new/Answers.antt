@@ -1,6 +1,6 @@
 use mathlib.Core.Path.{_≡_, ap, _∙_}
 use Rattle.model.specs.State.{State, fresh}
-use Rattle.engine.specs.Parts.{together}
+use Rattle.operations.specs.Parts.{together}
 use Rattle.engine.proofs.engine.Engine.new.Needs as need
 
 pub returns : need.returns

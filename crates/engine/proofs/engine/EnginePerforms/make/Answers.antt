@@ -4,7 +4,7 @@ use lib.ListN.{getD, set}
 use Rattle.model.specs.State.{State, Heap}
 use Rattle.model.specs.Making.{barrier}
 use Rattle.collector.specs.View.{heap-of, new-heap}
-use Rattle.engine.specs.Parts.{together}
+use Rattle.operations.specs.Parts.{together}
 use Rattle.engine.proofs.Makes.{make-granted}
 use Rattle.engine.proofs.engine.EnginePerforms.make.Needs as need
 

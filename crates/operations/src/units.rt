@@ -9,7 +9,7 @@ ghost use Rattle.model.specs.State.{running};
 ghost use Rattle.model.specs.Units.{unit, steps, done-in};
 ghost use Rattle.collector.specs.View.{heap-of, root-of, root-unit-by};
 ghost use Rattle.std.specs.declared.option.Option.the-variants.{Some};
-ghost use Rattle.engine.specs.Parts.{together, unit-if-running};
+ghost use Rattle.operations.specs.Parts.{together, unit-if-running};
 use collector::collector::Collector;
 use holders::agenda::Agenda;
 use holders::holder::Holder;
@@ -63,7 +63,7 @@ fn unit<H: Holder, A: Agenda>(collector: &mut Collector, holder: &mut H, agenda:
 }
 
 // Units until so many are done or the collection ends; answers how many were done.
-pub(crate) fn spend<H: Holder, A: Agenda>(
+pub fn spend<H: Holder, A: Agenda>(
     collector: &mut Collector,
     holder: &mut H,
     agenda: &mut A,

@@ -13,7 +13,7 @@ use Rattle.model.specs.Pages.{current}
 use Rattle.model.specs.State.{State, Heap, Phase, idle, roots, marking, sweeping, moving, running, with-heap, with-holder, with-agenda, with-phase}
 use Rattle.model.specs.Units.{grey, one-more, after-root, by-phase, unit, steps, done-in}
 use Rattle.collector.specs.View.{root-of, root-unit-by, own-unit}
-use Rattle.engine.specs.Parts.{together, unit-if-running}
+use Rattle.operations.specs.Parts.{together, unit-if-running}
 
 abbrev unit-by : State → Phase → State
 unit-by s ph = with-heap (by-phase s ph) (one-more (by-phase s ph .heap))

@@ -4,9 +4,9 @@ use native.Mathlib.Omega.{arith}
 use lib.ListN.{length}
 use Rattle.std.proofs.shelf.Tests.{le-ltb}
 use Rattle.collector.specs.View.{heap-of}
-use Rattle.engine.specs.Parts.{together}
-use Rattle.engine.proofs.Steps.{agenda-root, rooted-in-agenda}
-use Rattle.engine.proofs.units.root.Needs as need
+use Rattle.operations.specs.Parts.{together}
+use Rattle.operations.proofs.Steps.{agenda-root, rooted-in-agenda}
+use Rattle.operations.proofs.units.root.Needs as need
 
 pub returns-else-place-held : need.returns-else-place-held
 returns-else-place-held g c clock serial =

@@ -5,9 +5,9 @@ use native.Mathlib.Omega.{arith}
 use Rattle.model.specs.State.{State, running}
 use Rattle.model.specs.Units.{steps, done-in}
 use Rattle.collector.specs.View.{heap-of}
-use Rattle.engine.specs.Parts.{together}
-use Rattle.engine.proofs.Steps.{rests, goes}
-use Rattle.engine.proofs.units.spend.Needs as need
+use Rattle.operations.specs.Parts.{together}
+use Rattle.operations.proofs.Steps.{rests, goes}
+use Rattle.operations.proofs.units.spend.Needs as need
 
 pub returns-then-not-is-running : need.returns-then-not-is-running
 returns-then-not-is-running g c =

@@ -3,8 +3,8 @@ use Prim.Native.Nat.{ℕ, _+_, _-_}
 use Rattle.model.specs.State.{State}
 use Rattle.model.specs.Units.{steps, done-in}
 use Rattle.collector.specs.View.{heap-of}
-use Rattle.engine.specs.Parts.{together}
-use Rattle.engine.proofs.units.spend.Given as given
+use Rattle.operations.specs.Parts.{together}
+use Rattle.operations.proofs.units.spend.Given as given
 
 -- what is left to do leads where all was to lead, and is done as often as is still to be done
 abbrev pub Inv-loop-done : given.InvT-loop-done

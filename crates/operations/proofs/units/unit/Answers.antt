@@ -1,8 +1,8 @@
 use mathlib.Core.Path.{_≡_, sym, ap, _∙_}
 use Rattle.collector.specs.View.{heap-of}
-use Rattle.engine.specs.Parts.{together}
-use Rattle.engine.proofs.Steps.{root-runs, own}
-use Rattle.engine.proofs.units.unit.Needs as need
+use Rattle.operations.specs.Parts.{together}
+use Rattle.operations.proofs.Steps.{root-runs, own}
+use Rattle.operations.proofs.units.unit.Needs as need
 
 pub returns-in-Some : need.returns-in-Some
 returns-in-Some g c clock serial =
