@@ -1,18 +1,18 @@
 -- The runs that show that the law speaks of something, by computation.
-use mathlib.Core.Path.{_≡_, refl, sym, ap, subst, _∙_}
-use mathlib.Core.Logic.{_⊎_, ⊎-elim}
-use mathlib.Core.List.{List, [], _∷_, _++_}
-use Prim.Native.Nat.{ℕ, zero, suc, _<_}
+use mathlib.Core.List.{List, _++_, [], _∷_}
+use mathlib.Core.Logic.{⊎-elim}
+use mathlib.Core.Path.{ap, refl, _∙_, _≡_}
+use Prim.Native.Nat.{ℕ, suc, zero}
 use native.Mathlib.Omega.{arith}
 use lib.ListN.{replicate}
-use Rattle.calls.specs.declared.Call.the-variants.{Store, Clear, Step}
+use Rattle.calls.specs.declared.Call.the-variants.{Clear, Step, Store}
 use Rattle.model.specs.Maps.{has}
-use Rattle.model.specs.Pages.{Page, uncut, block-at, forward-of}
-use Rattle.model.specs.Graph.{Event, Graph, record-at, Member, here, there, Reached, from-place, from-event, from-ref}
-use Rattle.model.specs.Runs.{start, run-from}
-use Rattle.theory.specs.Examples.{collected, Freed, Moved, Kept-for-events, before-its-root, before-its-scan, Overwritten-in-roots, Overwritten-in-marking, Made-in-page-to-be-swept, Made-in-swept-page}
-use Rattle.theory.proofs.Events.{member-none, member-cons}
-use Rattle.theory.proofs.Bounds.{fresh-none}
+use Rattle.model.specs.Pages.{Page, block-at, forward-of, uncut}
+use Rattle.model.specs.Graph.{Event, Graph, Member, Reached, from-event, from-place, from-ref, here, record-at, there}
+use Rattle.model.specs.Runs.{run-from, start}
+use Rattle.theory.proofs.RunBounds.{fresh-none}
+use Rattle.theory.proofs.Lists.{member-cons, member-none}
+use Rattle.theory.specs.Examples.{Old-number-forwarded, Freed, Kept-for-events, Made-in-page-to-be-swept, Made-in-swept-page, Moved, Overwritten-in-marking, Overwritten-in-roots, before-its-root, before-its-scan, collected}
 
 all-uncut : run-from (start 1 1) collected .state .heap .pages ≡ replicate 64 uncut
 all-uncut = refl
@@ -29,6 +29,10 @@ freed = record {
 pub moved : Moved
 unfolding has
 moved = record { ended = refl; old = refl; new = refl; granted = refl; answered = refl }
+
+pub old-number-forwarded : Old-number-forwarded
+unfolding has
+old-number-forwarded = record { copy = refl; same = refl; ended = refl; place = refl; answered = refl }
 
 pub kept-for-events : Kept-for-events
 kept-for-events = record { first = refl; left = refl; time = refl }

@@ -6,8 +6,8 @@ use Rattle.calls.specs.declared.Call.{Call}
 use Rattle.model.specs.State.{State}
 use Rattle.model.specs.Calls.{apply}
 use Rattle.model.specs.Law.{Lawful}
-use Rattle.theory.proofs.Upholds.{law}
-use Rattle.theory.proofs.Joining.{joined}
+use Rattle.theory.proofs.Law.{law}
+use Rattle.theory.proofs.Joints.{joined}
 
 pub lawful : (h a : ℕ) (c : Call) (s t : State) → 1 ≤ h → h ≤ 128 → 1 ≤ a → a ≤ 128 → t ≡ apply c s .0 → Lawful h a c s t
 lawful h a c s t h₁ h₂ a₁ a₂ e = record {

@@ -1,14 +1,15 @@
 -- Runs which show that the law speaks of something, each with its numbers.
 use mathlib.Core.Path.{_≡_}
 use mathlib.Core.List.{List, [], _∷_, _++_}
-use mathlib.Core.Bool.{Bool}
+use mathlib.Core.Bool.{true}
 use Prim.Native.Nat.{ℕ, zero, suc}
 use lib.ListN.{length, getD}
 use Rattle.std.specs.declared.option.Option.the-variants.{None}
 use Rattle.calls.specs.declared.Call.{Call}
-use Rattle.calls.specs.declared.Call.the-variants.{Make, Store, Read, Write, Clear, Schedule, Next, Begin, Step}
+use Rattle.calls.specs.declared.Call.the-variants.{Make, Store, Read, Write, Copy, Clear, Same, Schedule, Next, Begin, Step}
 use Rattle.calls.specs.declared.Answer.the-variants.{Word}
-use Rattle.model.specs.Pages.{page-of, block-at, current}
+use Rattle.calls.specs.declared.Answer.the-variants as answer
+use Rattle.model.specs.Pages.{page-of, current}
 use Rattle.model.specs.State.{Phase, idle, roots, marking, sweeping}
 use Rattle.model.specs.Refusals.{refusal}
 use Rattle.model.specs.Calls.{reply}
@@ -52,6 +53,21 @@ pub record Read-by-old-number (r : Run) : Type 0 where
 
 abbrev pub Moved : Type 0
 Moved = Read-by-old-number (run-from (start 48 1) crowded)
+
+-- The same store: a copy of place 0 has the new number, and the two places are the same; after one more collection place 0 has the new number too.
+
+abbrev pub copied : List Call
+copied = crowded ++ Copy 46 0 ∷ []
+
+abbrev pub collected-again : List Call
+collected-again = copied ++ Begin ∷ Step 2000 ∷ []
+
+pub record Old-number-forwarded : Type 0 where
+  pub copy : getD (run-from (start 48 1) copied .state .holder) 46 0 ≡ 2882
+  pub same : reply (Same 0 46) (run-from (start 48 1) copied .state) ≡ answer.Same true
+  pub ended : run-from (start 48 1) collected-again .state .heap .phase ≡ idle
+  pub place : getD (run-from (start 48 1) collected-again .state .holder) 0 0 ≡ 2882
+  pub answered : reply (Read 0 0) (run-from (start 48 1) collected-again .state) ≡ Word 77
 
 -- Two records that only events name, due at one time: a collection keeps both, and the one that was scheduled first comes first.
 

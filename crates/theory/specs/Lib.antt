@@ -1,3 +1,3 @@
-pub mod Statement
+pub mod Measures
 pub mod Examples
 pub mod Joints

@@ -1,8 +1,8 @@
 // The law of the record store: the contract of each function is a theorem.
 ghost use Rattle.model.specs.Law.{Law};
-ghost use Rattle.theory.specs.Statement.{Measures};
+ghost use Rattle.theory.specs.Measures.{Measures};
 ghost use Rattle.theory.specs.Joints.{Joined};
-ghost use Rattle.theory.specs.Examples.{Freed, Moved, Kept-for-events, Overwritten-in-roots, Overwritten-in-marking, Made-in-page-to-be-swept, Made-in-swept-page};
+ghost use Rattle.theory.specs.Examples.{Freed, Moved, Old-number-forwarded, Kept-for-events, Overwritten-in-roots, Overwritten-in-marking, Made-in-page-to-be-swept, Made-in-swept-page};
 
 // What a store promises after every list of calls.
 pub fn law_of_every_run() -> u8
@@ -35,6 +35,13 @@ pub fn dropped_record_is_freed() -> u8
 // A record is moved, and a place with its old number reads it.
 pub fn moved_record_is_read_by_its_old_number() -> u8
     ensures { λ _. ⌜ Moved ⌝ }
+{
+    0
+}
+
+// An old number is the same as the new one, and the next collection puts the new one in its place.
+pub fn old_number_is_forwarded() -> u8
+    ensures { λ _. ⌜ Old-number-forwarded ⌝ }
 {
     0
 }
