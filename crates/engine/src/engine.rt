@@ -59,8 +59,8 @@ pub impl<H: Holder + Drop, A: Agenda + Drop> Performs for Engine<H, A> as Engine
         if lacks_reference(&self.collector, block, reference) {
             return Err(Refusal::NoSuchReference);
         }
-        let number = self.collector
-            .current(self.collector.reference(block, reference));
+        let referred = self.collector.reference(block, reference);
+        let number = self.collector.current(referred);
         overwrite(&mut self.collector, &mut self.holder, into, number);
         Ok(())
     }
