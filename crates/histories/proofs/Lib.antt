@@ -1,3 +1,4 @@
+pub mod Members
 pub mod Keys
 pub mod Splits
 pub mod Steps

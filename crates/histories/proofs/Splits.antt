@@ -7,26 +7,13 @@ use Prim.Native.Nat.{ℕ, suc, _<_}
 use native.Mathlib.Omega.{arith}
 use lib.ListN.{length}
 use Rattle.model.specs.Graph.{Event, Member, here, there, before, split-first}
+use Rattle.histories.proofs.Members.{member-cons, member-eq, member-none}
 use Rattle.histories.proofs.Keys.{not-before-itself, not-before-chain, before-one-way}
 
 -- no two events have one key
 abbrev pub Distinct : List Event → Type 0
 Distinct [] = Unit {0}
 Distinct (e ∷ es) = ((x : Event) → Member x es → x .key ≢ e .key) × Distinct es
-
-member-some : {A : Type 0} {x : A} {xs : List A} → Member x xs → 0 < length xs
-member-some here = omega arith
-member-some (there m) = omega arith
-
-pub member-none : {A : Type 0} {P : Type 0} {x : A} → Member x [] → P
-member-none m = let l = member-some m in absurd (omega arith)
-
-pub member-cons : {A : Type 0} {x y : A} {ys : List A} → Member x (y ∷ ys) → (x ≡ y) ⊎ Member x ys
-member-cons here = inl refl
-member-cons (there m) = inr m
-
-pub member-eq : {A : Type 0} {x y : A} {ys : List A} → x ≡ y → Member x (y ∷ ys)
-member-eq {A} {x} {y} {ys} e = subst (λ z. Member z (y ∷ ys)) (sym e) here
 
 -- `m` is the least of `all`, and `rest` are the others
 pub record Splits (all : List Event) (m : Event) (rest : List Event) : Type 0 where

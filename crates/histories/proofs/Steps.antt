@@ -21,7 +21,8 @@ use Rattle.model.specs.Refusals.{first-refusal}
 use Rattle.histories.specs.Histories.{History, extend, extend-by, outset, history, history-from, with-first}
 use Rattle.histories.specs.Order.{Orderly, Orderly-history, Continues}
 use Rattle.histories.proofs.Keys.{other-way, not-before-time, before-new}
-use Rattle.histories.proofs.Splits.{Distinct, Splits, split-splits, member-none, member-cons}
+use Rattle.histories.proofs.Splits.{Distinct, Splits, split-splits}
+use Rattle.histories.proofs.Members.{member-none, member-cons}
 
 -- what the calls keep: besides order, that no two events to come have one key, and that no event taken is after the clock
 pub record Kept (a : ℕ) (events : List Event) (clock serial : ℕ) (taken : List Event) (schedules nexts : ℕ) : Type 0 where

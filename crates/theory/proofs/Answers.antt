@@ -22,10 +22,12 @@ use Rattle.model.specs.Calls.{decided, if-some, outcome, reply}
 use Rattle.model.specs.Graph.{Event, Graph, Member, absent, first-time, graph-reply, lacks-reference, lacks-word, names-nil, there}
 use Rattle.model.specs.Runs.{Run}
 use Rattle.model.specs.Law.{Agrees, Stores-own, by-graph, graph-answers}
-use Rattle.theory.proofs.Lists.{member-eq, none-some, some-same}
+use Rattle.histories.proofs.Members.{member-eq}
+use Rattle.theory.proofs.Lists.{none-some, some-same}
 use Rattle.theory.proofs.Writes.{same-test}
 use Rattle.theory.proofs.Keys.{spare-test}
-use Rattle.theory.proofs.Events.{Agenda, first-same, split-splits}
+use Rattle.histories.proofs.Splits.{split-splits}
+use Rattle.theory.proofs.Events.{Agenda, first-same}
 use Rattle.theory.proofs.Following.{First, Follows, Has, all-passed, due, first-event, has, nothing, place-in, same-absent, same-nil, same-ref, same-refs, same-word, same-words}
 
 test-same : (a b : Bool) (n : Refusal) (x y : Option Refusal) → a ≡ b → (a ≡ false → x ≡ y) → cond a (Some n) x ≡ cond b (Some n) y

@@ -53,12 +53,12 @@ overwritten : (s : State) (p m : ℕ) → Sound (s .heap) → Paid 0 s (overwrit
 overwritten s p m d = charged-paid 0 s (overwrite s p m) (length-set (s .holder) p m) refl (charged-barrier (s .heap) (getD (s .holder) p 0) d)
 
 -- the first condition fails
-pub none-first : (b : Bool) (x : Refusal) (cs : List (Bool × Refusal)) → first-refusal ((b, x) ∷ cs) ≡ None → (b ≡ false) × (first-refusal cs ≡ None)
+none-first : (b : Bool) (x : Refusal) (cs : List (Bool × Refusal)) → first-refusal ((b, x) ∷ cs) ≡ None → (b ≡ false) × (first-refusal cs ≡ None)
 none-first true x cs e = let z : _≡_ {A = ℕ} 0 1 = cc in absurd (omega arith)
 none-first false x cs e = (refl, e)
 
 -- a record that is made is not too large
-pub made-small : (s : State) (p r d : ℕ) → refusal (Make p r d) s ≡ None → 2 + r + d ≤ 32
+made-small : (s : State) (p r d : ℕ) → refusal (Make p r d) s ≡ None → 2 + r + d ≤ 32
 made-small s p r d e =
     let a = none-first (no-place s p) NoSuchPlace ((ltb 30 (r + d), TooLarge) ∷ (no-room s r d, NoRoom) ∷ []) e in
     let b = none-first (ltb 30 (r + d)) TooLarge ((no-room s r d, NoRoom) ∷ []) (a .1) in
@@ -136,7 +136,7 @@ idle-phase marking e = absurd (true≢false e)
 idle-phase (sweeping g) e = absurd (true≢false e)
 idle-phase (moving k source targets) e = absurd (true≢false e)
 
--- what a collection may take when it begins, with `held` current blocks
+-- what a collection may take beside its places when it begins with `held` current blocks: 8405 = 4096 to be greyed + 4096 to be moved + 213
 abbrev pub allowed : Bound → ℕ → ℕ
 allowed by-room held = 8405
 allowed by-blocks held = 2 * held + 213

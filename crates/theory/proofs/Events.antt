@@ -15,8 +15,10 @@ use Rattle.holders.specs.declared.key.Key.{Key}
 use Rattle.model.specs.Pages.{occupied}
 use Rattle.model.specs.Refusals.{first-keyed, keyed-at}
 use Rattle.model.specs.Graph.{Event, Member, before, here, split-first, there}
-use Rattle.theory.proofs.Lists.{member-cons, member-eq, member-none, none-some, occupied-drop, occupied-fill, set-cases, some-in, some-same}
-use Rattle.theory.proofs.Keys.{Least-key, before-one-way, first-is-least, neither-before, not-before-chain, not-before-itself, spare-none}
+use Rattle.histories.proofs.Members.{member-cons, member-eq, member-none}
+use Rattle.theory.proofs.Lists.{none-some, occupied-drop, occupied-fill, set-cases, some-in, some-same}
+use Rattle.histories.proofs.Splits.{Distinct, Splits, split-splits}
+use Rattle.theory.proofs.Keys.{Least-key, first-is-least, neither-before, spare-none}
 
 -- an event that is not before another
 abbrev pub Late : Key → Key → Type 0
@@ -24,79 +26,6 @@ Late a b = key-before a b ≡ false
 
 abbrev pub event : Key → ℕ → Event
 event k x = record { key = k; names = x }
-
-abbrev pub Distinct : List Event → Type 0
-Distinct [] = Unit {0}
-Distinct (e ∷ es) = ((x : Event) → Member x es → x .key ≢ e .key) × Distinct es
-
--- `m` is the least of `all`, and `rest` are the others
-pub record Splits (all : List Event) (m : Event) (rest : List Event) : Type 0 where
-  pub to : (y : Event) → Member y all → (y ≡ m) ⊎ Member y rest
-  pub found : Member m all
-  pub from : (y : Event) → Member y rest → Member y all
-  pub least : (y : Event) → Member y all → Late (y .key) (m .key)
-  pub distinct : Distinct all → Distinct (m ∷ rest)
-  pub many : length all ≡ suc (length rest)
-
-swap-member : {x y z : Event} {ys : List Event} → Member z (x ∷ y ∷ ys) → Member z (y ∷ x ∷ ys)
-swap-member here = there here
-swap-member (there here) = here
-swap-member (there (there m)) = there (there m)
-
-swap-distinct : (x y : Event) (ys : List Event) → Distinct (x ∷ y ∷ ys) → Distinct (y ∷ x ∷ ys)
-swap-distinct x y ys d = (
-  (λ z m. ⊎-elim (λ (e : z ≡ x). λ f. d .0 y here (sym f ∙ ap (λ (a : Event). a .key) e)) (λ n. d .1 .0 z n) (member-cons m)),
-  ((λ z m. d .0 z (there m)), d .1 .1),
-)
-
-swap-splits : (x y : Event) (ys : List Event) (m : Event) (rest : List Event) → Splits (x ∷ y ∷ ys) m rest → Splits (y ∷ x ∷ ys) m rest
-swap-splits x y ys m rest s = record {
-  to = λ z i. s .to z (swap-member i);
-  found = swap-member (s .found);
-  from = λ z i. swap-member (s .from z i);
-  least = λ z i. s .least z (swap-member i);
-  distinct = λ d. s .distinct (swap-distinct y x ys d);
-  many = s .many;
-}
-
--- one more that is not before the others' least
-more-splits : (b a : Event) (xs : List Event) (m : Event) (rest : List Event) → Late (b .key) (a .key) → Splits (a ∷ xs) m rest
-    → Splits (b ∷ a ∷ xs) m (b ∷ rest)
-more-splits b a xs m rest l s = record {
-  to = λ z i. ⊎-elim (λ (e : z ≡ b). inr (member-eq e)) (λ j. ⊎-elim inl (λ k. inr (there k)) (s .to z j)) (member-cons i);
-  found = there (s .found);
-  from = λ z i. ⊎-elim (λ (e : z ≡ b). member-eq e) (λ j. there (s .from z j)) (member-cons i);
-  least = λ z i. ⊎-elim
-      (λ (e : z ≡ b). subst (λ (y : Event). Late (y .key) (m .key)) (sym e) (not-before-chain (b .key) (a .key) (m .key) l (s .least a here)))
-      (λ j. s .least z j)
-      (member-cons i);
-  distinct = λ d.
-      let q = s .distinct (d .1) in (
-        (λ z i. ⊎-elim
-            (λ (e : z ≡ b). λ f. d .0 m (s .found) (sym f ∙ ap (λ (y : Event). y .key) e))
-            (λ j. q .0 z j)
-            (member-cons i)),
-        ((λ z i. d .0 z (s .from z i)), q .1),
-      );
-  many = ap suc (s .many);
-}
-
-pub split-splits : (e : Event) (es : List Event) → Splits (e ∷ es) (split-first e es .0) (split-first e es .1)
-split-splits e [] = record {
-  to = λ y i. ⊎-elim inl (λ j. inr j) (member-cons i);
-  found = here;
-  from = λ y i. member-none i;
-  least = λ y i. ⊎-elim (λ (q : y ≡ e). subst (λ (z : Event). Late (z .key) (e .key)) (sym q) (not-before-itself (e .key))) member-none (member-cons i);
-  distinct = λ d. d;
-  many = refl;
-}
-split-splits e (x ∷ xs) = go (before x e) refl (split-splits x xs) (split-splits e xs)
-  where
-    go : (t : Bool) → before x e ≡ t → Splits (x ∷ xs) (split-first x xs .0) (split-first x xs .1)
-        → Splits (e ∷ xs) (split-first e xs .0) (split-first e xs .1)
-        → Splits (e ∷ x ∷ xs) (split-first (cond t x e) xs .0) (cond t e x ∷ split-first (cond t x e) xs .1)
-    go true q a b = more-splits e x xs _ _ (before-one-way (x .key) (e .key) q) a
-    go false q a b = swap-splits x e xs _ _ (more-splits x e xs _ _ q b)
 
 -- the first keyed place, with its key
 pub record Due (ks : List (Option Key)) (k : Key) (i : ℕ) : Type 0 where

@@ -11,7 +11,7 @@ use Rattle.model.specs.Pages.{Page, block-at, forward-of, uncut}
 use Rattle.model.specs.Graph.{Event, Graph, Member, Reached, from-event, from-place, from-ref, here, record-at, there}
 use Rattle.model.specs.Runs.{run-from, start}
 use Rattle.theory.proofs.RunBounds.{fresh-none}
-use Rattle.theory.proofs.Lists.{member-cons, member-none}
+use Rattle.histories.proofs.Members.{member-cons, member-none}
 use Rattle.theory.specs.Examples.{Old-number-forwarded, Freed, Kept-for-events, Made-in-page-to-be-swept, Made-in-swept-page, Moved, Overwritten-in-marking, Overwritten-in-roots, before-its-root, before-its-scan, collected}
 
 all-uncut : run-from (start 1 1) collected .state .heap .pages ≡ replicate 64 uncut

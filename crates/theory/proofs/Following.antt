@@ -25,14 +25,16 @@ use Rattle.model.specs.Refusals.{block-in, conditions, first-keyed, first-refus
 use Rattle.model.specs.Calls.{if-some, made-in, outcome, taken}
 use Rattle.model.specs.Graph.{Event, Graph, Member, Record, absent, graph-after, in-place, lacks-reference, lacks-word, names-nil, popped, record-at, split-first, with-record}
 use Rattle.model.specs.Runs.{block-made, is-begin, owner-after, owner-steps, put}
-use Rattle.theory.proofs.Lists.{member-none, none-some, occupied-some, some-in}
+use Rattle.histories.proofs.Members.{member-none}
+use Rattle.theory.proofs.Lists.{none-some, occupied-some, some-in}
 use Rattle.theory.proofs.Records.{View, find-in, put-set, record-of, record-some}
 use Rattle.theory.proofs.Greying.{memory}
 use Rattle.theory.proofs.Phases.{steps-at}
 use Rattle.theory.proofs.Places.{Store-stands, agenda-form, agenda-nil-or, agenda-overwrite, agenda-owner, agenda-wanted, clear-stands, copy-stands, empty-stands, graph-overwritten, graph-planned, holder-nil-or, holder-owner, holder-wanted, live-owner, live-record, memory-stands, overwrite-form, place-record, graph-put}
 use Rattle.theory.proofs.Writes.{load-call, make-stands, store-call, write-call}
 use Rattle.theory.proofs.Keys.{spare-most}
-use Rattle.theory.proofs.Events.{Agenda, Due, Found, event, first-found, first-same, next-agenda, schedule-agenda, split-splits}
+use Rattle.histories.proofs.Splits.{split-splits}
+use Rattle.theory.proofs.Events.{Agenda, Due, Found, event, first-found, first-same, next-agenda, schedule-agenda}
 use Rattle.theory.proofs.Wanted.{view}
 
 -- the store stands for the graph, and its agenda for the graph's events

@@ -34,10 +34,10 @@ pub record Greyed (h k : Heap) : Type 0 where
   pub pays : (f : Weight) → Pays f → length (k .work) + total f (k .pages) ≡ length (h .work) + total f (h .pages)
   pub keeps : (f : Weight) → Keeps f → total f (k .pages) ≡ total f (h .pages)
 
-pub greyed-refl : (h : Heap) → Straight (h .pages) → Greyed h h
+greyed-refl : (h : Heap) → Straight (h .pages) → Greyed h h
 greyed-refl h s = record { frame = frame-refl (h .pages); phase = refl; units = refl; straight = s; pays = λ f p. refl; keeps = λ f p. refl }
 
-pub greyed-trans : (h k l : Heap) → Greyed h k → Greyed k l → Greyed h l
+greyed-trans : (h k l : Heap) → Greyed h k → Greyed k l → Greyed h l
 greyed-trans h k l a b = record {
   frame = frame-trans (h .pages) (k .pages) (l .pages) (a .frame) (b .frame);
   phase = b .phase ∙ a .phase;

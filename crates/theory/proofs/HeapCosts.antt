@@ -40,7 +40,7 @@ pub record Charged (e : ℕ) (h k : Heap) : Type 0 where
   pub units : k .units ≡ h .units
   pub left : (b : Bound) (n : ℕ) → left-of b n k ≤ left-of b n h + raise e b
 
-pub charged-refl : (h : Heap) → Sound h → Charged 0 h h
+charged-refl : (h : Heap) → Sound h → Charged 0 h h
 charged-refl h s = record { sound = s; units = refl; left = λ b n. omega arith }
 
 raise-plus : (d e : ℕ) (b : Bound) → raise d b + raise e b ≡ raise (d + e) b

@@ -22,7 +22,8 @@ use Rattle.model.specs.Graph.{Graph, Member, Reached, Record, empty, from-event
 use Rattle.model.specs.Runs.{Run, extend, extend-by, granted, is-begin, run-from, start}
 use Rattle.theory.proofs.PageShapes.{fresh-ok}
 use Rattle.theory.proofs.RunBounds.{begin-is, fresh-none, records-after}
-use Rattle.theory.proofs.Lists.{in-zeros, map-same, member-in, member-none, none-some, replicate-at}
+use Rattle.histories.proofs.Members.{member-none}
+use Rattle.theory.proofs.Lists.{in-zeros, map-same, member-in, none-some, replicate-at}
 use Rattle.theory.proofs.Records.{find, find-in}
 use Rattle.theory.proofs.Places.{Store-stands}
 use Rattle.theory.proofs.Events.{Agenda}

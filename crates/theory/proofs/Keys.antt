@@ -15,17 +15,8 @@ use Rattle.std.proofs.shelf.Ways.{tells}
 use Rattle.holders.specs.Keys.{before-key, first-of, key-before, spare-of}
 use Rattle.holders.specs.declared.key.Key.{Key}
 use Rattle.model.specs.Pages.{lowest-free, occupied}
+use Rattle.histories.proofs.Keys.{before-one-way, not-before-chain, not-before-itself}
 use Rattle.theory.proofs.Lists.{lowest-in, lowest-none, none-some, occupied-most, some-same}
-
-pub not-before-itself : (k : Key) → key-before k k ≡ false
-not-before-itself k = grind (arith, tells)
-
--- what is not before another is handed on
-pub not-before-chain : (a b c : Key) → key-before a b ≡ false → key-before b c ≡ false → key-before a c ≡ false
-not-before-chain a b c p q = grind (arith, tells)
-
-pub before-one-way : (a b : Key) → key-before a b ≡ true → key-before b a ≡ false
-before-one-way a b p = grind (arith, tells)
 
 -- of two different keys one is before the other
 pub neither-before : (a b : Key) → key-before a b ≡ false → key-before b a ≡ false → a ≡ b

@@ -40,5 +40,5 @@ pub mod RunBounds
 pub mod Induction
 pub mod Law
 pub mod Joints
-pub mod Examples
 pub mod Lawful
+pub mod Examples

@@ -89,20 +89,6 @@ in-map-back f xs i =
 
 -- Membership, and places.
 
-member-some : {A : Type 0} {x : A} {xs : List A} → Member x xs → 0 < length xs
-member-some here = omega arith
-member-some (there m) = omega arith
-
-pub member-none : {A : Type 0} {P : Type 0} {x : A} → Member x [] → P
-member-none m = let l = member-some m in absurd (omega arith)
-
-pub member-cons : {A : Type 0} {x y : A} {ys : List A} → Member x (y ∷ ys) → (x ≡ y) ⊎ Member x ys
-member-cons here = inl refl
-member-cons (there m) = inr m
-
-pub member-eq : {A : Type 0} {x y : A} {ys : List A} → x ≡ y → Member x (y ∷ ys)
-member-eq {A} {x} {y} {ys} e = subst (λ z. Member z (y ∷ ys)) (sym e) here
-
 pub at-member : (xs : List ℕ) (k : ℕ) → k < length xs → Member (getD xs k 0) xs
 at-member [] k l = absurd (omega arith)
 at-member (x ∷ xs) zero l = here

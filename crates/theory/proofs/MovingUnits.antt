@@ -117,14 +117,11 @@ record Move (ps : List Page) (targets g t from to : ℕ) : Type 0 where
   apart : has targets g ≡ false
 
 module _ {ps : List Page} {targets g t from to : ℕ} (move : Move ps targets g t from to) where
-  abbrev src : Source ps g from
-  src = move .source
-
-  abbrev dst : Target ps t to
-  dst = move .target
+  abbrev old : Block
+  old = move .source .block
 
   abbrev copied : Block
-  copied = with-forward (src .block) to
+  copied = with-forward old to
 
   abbrev half : List Page
   half = put-block ps to copied
@@ -133,32 +130,32 @@ module _ {ps : List Page} {targets g t from to : ℕ} (move : Move ps targets g 
   after = put-block half from copied
 
   differ : from ≢ to
-  differ e = move .other (sym (src .page) ∙ ap page-of e ∙ dst .page)
+  differ e = move .other (sym (move .source .page) ∙ ap page-of e ∙ move .target .page)
 
-  half-from : block-at half from ≡ Some (src .block)
-  half-from = put-other ps to from copied (dst .room) differ ∙ src .is
+  half-from : block-at half from ≡ Some old
+  half-from = put-other ps to from copied (move .target .room) differ ∙ move .source .is
 
   from-room : Room half from
-  from-room = room-from half from (src .block) half-from
+  from-room = room-from half from old half-from
 
   moved-frame : Frame ps after
   moved-frame = frame-trans ps half after (frame-put ps to copied) (frame-put half from copied)
 
   -- one current block more in the page of the copy, and a husk in place of the old one
   moved-total : (f : Weight)
-      → total f after + f g (src .block .marked) true ≡ total f ps + f t (src .block .marked) true + f g (src .block .marked) false
+      → total f after + f g (old .marked) true ≡ total f ps + f t (old .marked) true + f g (old .marked) false
   moved-total f =
-      let m : Bool = src .block .marked in
-      let none : weigh f (page-of to) to (block-at ps to) ≡ 0 = ap (weigh f (page-of to) to) (dst .free) in
-      let copy : weigh f (page-of to) to (Some copied) ≡ f t m true = ap (λ p. f p m (eqb to to)) (dst .page) ∙ ap (f t m) (eq-eqb to to refl) in
+      let m : Bool = old .marked in
+      let none : weigh f (page-of to) to (block-at ps to) ≡ 0 = ap (weigh f (page-of to) to) (move .target .free) in
+      let copy : weigh f (page-of to) to (Some copied) ≡ f t m true = ap (λ p. f p m (eqb to to)) (move .target .page) ∙ ap (f t m) (eq-eqb to to refl) in
       let was : weigh f (page-of from) from (block-at half from) ≡ f g m true =
-      ap (weigh f (page-of from) from) half-from ∙ ap (λ p. f p m (eqb (src .block .forward) from)) (src .page) ∙ ap (f g m) (eq-eqb _ _ (src .forward)) in
+      ap (weigh f (page-of from) from) half-from ∙ ap (λ p. f p m (eqb (old .forward) from)) (move .source .page) ∙ ap (f g m) (eq-eqb _ _ (move .source .forward)) in
       let husk : weigh f (page-of from) from (Some copied) ≡ f g m false =
-      ap (λ p. f p m (eqb to from)) (src .page) ∙ ap (f g m) (ne-eqb to from (λ e. differ (sym e))) in
-      omega (arith, total-put f ps to copied (dst .room), total-put f half from copied from-room)
+      ap (λ p. f p m (eqb to from)) (move .source .page) ∙ ap (f g m) (ne-eqb to from (λ e. differ (sym e))) in
+      omega (arith, total-put f ps to copied (move .target .room), total-put f half from copied from-room)
 
   moved-clean : total marked ps ≡ 0 → total marked after ≡ 0
-  moved-clean z = omega (arith, block-le-total marked ps from (src .block) (src .is), moved-total marked)
+  moved-clean z = omega (arith, block-le-total marked ps from old (move .source .is), moved-total marked)
 
   outside-less : (i : ℕ) (m c : Bool) → current-outside (with-flag targets t) i m c ≤ current-outside targets i m c
   outside-less i m c = subst (λ x. cond x 0 (bit c) ≤ current-outside targets i m c) (sym (has-with targets t i)) (by (eqb i t) (has targets i))
@@ -175,7 +172,7 @@ module _ {ps : List Page} {targets g t from to : ℕ} (move : Move ps targets g 
   move-less by-room = omega (arith, moved-total occupied-block, total-limit occupied-block (λ i m c. omega arith) after (frame-ok ps after moved-frame (move .pages)))
   move-less by-blocks =
       let f : Weight = current-outside (with-flag targets t) in
-      let m : Bool = src .block .marked in
+      let m : Bool = old .marked in
       let was : f g m true ≡ 1 = ap (λ x. cond x 0 1) gone in
       let husk : f g m false ≡ 0 = ap (λ x. cond x 0 0) gone in
       let copy : f t m true ≡ 0 = ap (λ x. cond x 0 1) (has-with-same targets t) in
@@ -185,18 +182,18 @@ module _ {ps : List Page} {targets g t from to : ℕ} (move : Move ps targets g 
   Settled x = (current after x ≡ x) × (0 < x → has (with-flag targets t) (page-of x) ≡ true)
 
   current-to : current after to ≡ to
-  current-to = put-current-other half from to copied from-room (λ e. differ (sym e)) ∙ put-current ps to copied (dst .room)
+  current-to = put-current-other half from to copied from-room (λ e. differ (sym e)) ∙ put-current ps to copied (move .target .room)
 
   current-else : (x : ℕ) → x ≢ from → x ≢ to → current after x ≡ current ps x
-  current-else x d d′ = put-current-other half from x copied from-room d ∙ put-current-other ps to x copied (dst .room) d′
+  current-else x d d′ = put-current-other half from x copied from-room d ∙ put-current-other ps to x copied (move .target .room) d′
 
   settled-still : (x : ℕ) → current ps x ≡ x → (0 < x → has targets (page-of x) ≡ true) → Settled x
   settled-still x e i = ⊎-elim (λ (p : 0 < x). there p) (λ (p : x ≤ 0). let z : 0 ≡ x = omega arith in subst Settled z (refl, λ q. absurd (omega arith))) (cases-lt 0 x)
     where
       there : 0 < x → Settled x
       there p =
-          let d : x ≢ from = λ q. true≢false (sym (i p) ∙ ap (has targets) (ap page-of q ∙ src .page) ∙ move .apart) in
-          let d′ : x ≢ to = λ q. let none : current ps x ≡ 0 = ap (current ps) q ∙ ap forward-of (dst .free) in omega arith in
+          let d : x ≢ from = λ q. true≢false (sym (i p) ∙ ap (has targets) (ap page-of q ∙ move .source .page) ∙ move .apart) in
+          let d′ : x ≢ to = λ q. let none : current ps x ≡ 0 = ap (current ps) q ∙ ap forward-of (move .target .free) in omega arith in
           (current-else x d d′ ∙ e, λ q. has-with targets t (page-of x) ∙ or-right (eqb (page-of x) t) (has targets (page-of x)) (i q))
 
   moved-forwards : Forwards targets ps → Forwards (with-flag targets t) after
@@ -204,7 +201,7 @@ module _ {ps : List Page} {targets g t from to : ℕ} (move : Move ps targets g 
       ⊎-elim
       (λ (e : x ≡ from).
       subst Settled (sym (ap (current after) e ∙ put-current half from copied from-room))
-      (current-to, λ q. ap (has (with-flag targets t)) (dst .page) ∙ has-with-same targets t))
+      (current-to, λ q. ap (has (with-flag targets t)) (move .target .page) ∙ has-with-same targets t))
       (λ (d1 : x ≢ from). ⊎-elim
       (λ (e : x ≡ to). absurd (d (ap (current after) e ∙ current-to ∙ sym e)))
       (λ (d2 : x ≢ to).
@@ -219,13 +216,13 @@ module _ (n : ℕ) (h : Heap) (k targets g : ℕ) (o : Pages-ok (h .pages)) (e :
     (a : At-hand k targets (h .pages) g) where
   block-moved : (t from to : ℕ) → Source (h .pages) g from → Target (h .pages) t to → g ≢ t
       → Lowered n h (moving k (Some g) targets) (with-phase (with-pages h (moved (h .pages) from to (block-at (h .pages) from))) (moving k (Some g) (with-flag targets t)))
-  block-moved t from to src dst ne =
+  block-moved t from to source target ne =
       let ps : List Page = h .pages in
-      let qs : List Page = moved ps from to (Some (src .block)) in
-      let move : Move ps targets g t from to = record { pages = o; source = src; target = dst; other = ne; apart = a .apart } in
+      let qs : List Page = moved ps from to (Some (source .block)) in
+      let move : Move ps targets g t from to = record { pages = o; source = source; target = target; other = ne; apart = a .apart } in
       let frame : Frame ps qs = moved-frame move in
       let hand : At-hand k targets qs g = at-hand-frame k targets ps qs g frame a in
-      subst (λ x. Lowered n h (moving k (Some g) targets) (with-phase (with-pages h (moved ps from to x)) (moving k (Some g) (with-flag targets t)))) (sym (src .is))
+      subst (λ x. Lowered n h (moving k (Some g) targets) (with-phase (with-pages h (moved ps from to x)) (moving k (Some g) (with-flag targets t)))) (sym (source .is))
       (record {
         sound = record {
           pages = frame-ok ps qs frame o;

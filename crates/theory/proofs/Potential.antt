@@ -46,8 +46,9 @@ abbrev pub source-left : Option ℕ → ℕ
 source-left None = 0
 source-left (Some g) = 1
 
--- the units left, of a store with `n` places: a unit for each place, for each block to be greyed and for the end of marking;
--- for each page to be swept; for each block to be moved, two for each page that may become a source, and one for each class
+-- the units left, of a store with `n` places: one for each place, for each block to be greyed and for the end of marking;
+-- one for each page to be swept; and one for each block to be moved, two for each page that may become a source, one for each class.
+-- So 148 = 2 × 64 + 20 for moving beside the blocks, and 213 = 1 + 64 + 148 from the end of marking on
 abbrev pub left : Bound → ℕ → List Page → List ℕ → Phase → ℕ
 left b n ps w idle = 0
 left b n ps w (roots i) = suc (n - suc i) + to-trace b ps w + 213

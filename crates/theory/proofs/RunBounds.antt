@@ -118,7 +118,7 @@ extend-within n one r c k = go (refusal c (r .state)) refl
     go None e = granted-within n one r c e k
     go (Some x) e = k
 
-pub run-within : (n : ℕ) → 1 ≤ n → (r : Run) (cs : List Call) → Within n r → Within n (run-from r cs)
+run-within : (n : ℕ) → 1 ≤ n → (r : Run) (cs : List Call) → Within n r → Within n (run-from r cs)
 run-within n one r [] k = k
 run-within n one r (c ∷ cs) k = run-within n one (extend r c) cs (extend-within n one r c k)
 
@@ -130,7 +130,7 @@ fresh-none n =
 fresh-straight : Straight (replicate 64 uncut)
 fresh-straight n = ap forward-of (fresh-none (current (replicate 64 uncut) n)) ∙ sym (ap forward-of (fresh-none n))
 
-pub start-within : (h a : ℕ) → Within (h + a) (start h a)
+start-within : (h a : ℕ) → Within (h + a) (start h a)
 start-within h a = record {
   sound = record { pages = fresh-ok; stage = record { listed = refl; clean = total-fresh marked 64; straight = fresh-straight } };
   places = omega (arith, length-replicate {A = ℕ} h 0, length-replicate {A = ℕ} a 0);

@@ -60,7 +60,7 @@ module _ (f f′ : Weight) where
         cond-both (eqb (occupied (survivors (p .slots))) 0) uncut (record { size = p .size; closed = false; slots = survivors (p .slots) })
         (λ q. in-page (from (suc g) f f′) g q ≤ in-page (from g f f′) g p) (λ e. omega arith) (λ e. survivors-below 0 (p .slots))
 
-    pub swept-below : (ps : List Page) → total (from (suc g) f f′) (set ps g (swept (page-at ps g))) ≤ total (from g f f′) ps
+    swept-below : (ps : List Page) → total (from (suc g) f f′) (set ps g (swept (page-at ps g))) ≤ total (from g f f′) ps
     swept-below ps = total-below (from (suc g) f f′) (from g f f′) qs ps (length-set ps g q) (λ i l. page i (omega (arith, length-set ps g q)) (cases-eq i g))
       where
         q : Page
@@ -78,7 +78,7 @@ module _ (f f′ : Weight) where
             (in-page-mono (from (suc g) f f′) (from g f f′) i (from-other i g d) (page-at ps i))
 
   -- after the last page
-  pub from-end : (g : ℕ) (ps : List Page) → length ps ≤ g → total f′ ps ≤ total (from g f f′) ps
+  from-end : (g : ℕ) (ps : List Page) → length ps ≤ g → total f′ ps ≤ total (from g f f′) ps
   from-end g ps h = total-mono f′ (from g f f′) ps (λ i l m c. omega (arith, from-earlier g i (omega arith) m c))
 
 husk-survives : (g : ℕ) (c : Bool) → marked-or-husk g false c ≤ marked-husk g true c

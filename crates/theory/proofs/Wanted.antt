@@ -14,7 +14,8 @@ use Rattle.model.specs.Pages.{Block, block-at, forward-of}
 use Rattle.model.specs.State.{Heap, Phase, State, idle, marking, moving, roots, sweeping, with-heap}
 use Rattle.model.specs.Calls.{begun}
 use Rattle.model.specs.Graph.{Event, Graph, Member, Reached, Record, from-event, from-place, from-ref, here}
-use Rattle.theory.proofs.Lists.{In, at-member, in-map-back, in-member, member-in, member-none, none-some, some-in, some-same}
+use Rattle.histories.proofs.Members.{member-none}
+use Rattle.theory.proofs.Lists.{In, at-member, in-map-back, in-member, member-in, none-some, some-in, some-same}
 use Rattle.theory.proofs.Memory.{Has-block, One-block-each, form}
 use Rattle.theory.proofs.Records.{Reach, View, find, find-in, record-none, record-of, record-some, ref, root}
 use Rattle.theory.proofs.StandsFor.{Nil-or, stands-one-each}
