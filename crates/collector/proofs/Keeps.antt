@@ -15,8 +15,8 @@ use Rattle.model.specs.Classes.{sizes}
 use Rattle.model.specs.Pages.{Block, Page, uncut, page-of, slot-of, page-at, block-at, put-block, with-slots}
 use Rattle.model.specs.Units.{with-refs}
 use Rattle.model.specs.Calls.{with-word}
-use Rattle.heap.specs.Whole.{write-ref, write-ref-in}
-use Rattle.heap.specs.Of.{write-word, write-word-in}
+use Rattle.heap.specs.Blocks.{write-ref, write-ref-in}
+use Rattle.heap.specs.View.{write-word, write-word-in}
 use Rattle.collector.specs.declared.phase.Phase.{Phase}
 use Rattle.collector.specs.declared.phase.Phase.the-variants.{Idle, Roots, Marking, Sweeping, Moving}
 use Rattle.collector.specs.Counts.{sum-of, slot-white, page-white, white, page-spent, spent, stays, slot-stays}

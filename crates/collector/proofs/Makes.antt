@@ -12,25 +12,23 @@ use lib.Seq.{getD-set-same, getD-set-other, set-getD}
 use Rattle.std.specs.declared.option.Option.{Option}
 use Rattle.std.specs.declared.option.Option.the-variants.{Some, None}
 use Rattle.std.proofs.shelf.Bits.{le-div}
-use Rattle.std.proofs.shelf.Tests.{cases-bool, cases-eq, and-left, and-parts, both-ways, eqb-true, eq-eqb, ne-eqb, ltb-true, leb-true, leb-false, le-ltb}
+use Rattle.std.proofs.shelf.Tests.{cases-bool, cases-eq, and-left, and-parts, both-ways, eqb-true, eq-eqb, ne-eqb, ltb-true, ltb-false, leb-true, leb-false, le-ltb}
 use Rattle.model.specs.Classes.{sizes, first-fit, fitting}
 use Rattle.model.specs.Pages.{Block, Page, uncut, cut, number, page-of, slot-of, page-at, block-at, put-block, with-slots, in-class, free, occupied, lowest-free, is-uncut, first-page, current}
-use Rattle.model.specs.State.{Heap, idle, roots, marking, sweeping, moving, Phase as Stage}
-use Rattle.model.specs.Units.{grey, marked-block}
-use Rattle.model.specs.Making.{ready, ready-pages, allocated-marked, page-for, or-else, barrier, barrier-in}
+use Rattle.model.specs.State.{Heap, with-pages, Phase as Stage}
+use Rattle.model.specs.Making.{ready, ready-pages, allocated-marked, page-for, or-else}
+use Rattle.model.specs.Calls.{if-some}
 use Rattle.heap.specs.declared.heap.Heap.{Heap as Blocks}
-use Rattle.heap.specs.Of.{view, new-block, white-of}
-use Rattle.heap.specs.Whole.{mark-in}
-use Rattle.heap.specs.Whole.{marking as marks}
-use Rattle.heap.proofs.OfLaws.{long, few-slots}
+use Rattle.heap.specs.View.{view, new-block, new-page, new-pages}
+use Rattle.heap.proofs.Views.{long, few-slots}
 use Rattle.collector.specs.declared.phase.Phase.{Phase}
 use Rattle.collector.specs.declared.phase.Phase.the-variants.{Idle, Roots, Marking, Sweeping, Moving}
 use Rattle.collector.specs.Counts.{sum-of, slot-white, page-white, white, is-spent, page-spent, spent, stays, slot-stays}
 use Rattle.collector.specs.Sound.{left, pressed, at-hand, Source, Placed, placed}
 use Rattle.collector.specs.Making.{Sized, Free, Roomy, place-number, placed-in}
-use Rattle.collector.specs.View.{stage}
+use Rattle.collector.specs.View.{stage, new-heap}
 use Rattle.collector.proofs.Sums.{sum-set, some-within, block-slot, page-within, put-sum}
-use Rattle.collector.proofs.Sounds.{placed-in as sited-in, placed-out as sited-out, grey-white, grey-not}
+use Rattle.collector.proofs.Sounds.{placed-out as sited-out}
 use Rattle.collector.proofs.Moves.{sizes-four, spent-set, put-spent, put-there, room-left, opened}
 
 -- ---- the page is made ready
@@ -271,3 +269,58 @@ room-found ps size g e = by (first-page (λ p. in-class size p && ltb 0 (free p)
         let a = and-parts (in-class size (page-at ps g)) (ltb 0 (free (page-at ps g))) (f .1) in
         let o = opened size (page-at ps g) (a .0) in
         (f .0, inl (record { same = o .size-is; ajar = o .open-is; space = ltb-true 0 (free (page-at ps g)) (a .1) }))
+
+-- ---- a new record
+
+-- a page is found only for a record that fits a block
+new-found : (ps : List Page) (r d g : ℕ) → new-page ps r d ≡ Some g → (r + d ≤ 30) × (page-for ps (fitting (2 + r + d)) ≡ Some g)
+new-found ps r d g e = by (ltb 30 (r + d)) refl e
+  where
+    by : (b : Bool) → ltb 30 (r + d) ≡ b → cond b None (page-for ps (fitting (2 + r + d))) ≡ Some g → (r + d ≤ 30) × (page-for ps (fitting (2 + r + d)) ≡ Some g)
+    by true t q = let z : _≡_ {A = ℕ} 0 1 = cc in absurd (omega arith)
+    by false t q = (ltb-false 30 (r + d) t, q)
+
+module _ (h : Blocks) (r d from targets t : ℕ) (ph : Phase) (marks : (g : ℕ) → g < 64 → leb from g ≡ allocated-marked (stage ph targets) g) (pl : Placed ph (view h)) where
+  abbrev made : Option ℕ → List Page
+  made o = if-some o (λ g. placed-in (view h) (fitting (2 + r + d)) r d (leb from g) g) (view h)
+
+  -- a call that makes nothing, or a block in a page with room for it
+  pub record Harmless (qs : List Page) : Type 0 where
+    pub lefts : left ph qs t ≤ left ph (view h) t
+    pub presses : pressed ph qs t ≤ pressed ph (view h) t
+    pub places : placed ph qs ≡ true
+
+  in-page : (g size : ℕ) → size ≡ fitting (2 + r + d) → r + d ≤ 30 → page-for (view h) size ≡ Some g → (g < 64) × Harmless (placed-in (view h) size r d (leb from g) g)
+  in-page g size is few e =
+      let f = room-found (view h) size g e in
+      let n = long h in
+      let k = f .0 in
+      let low : g < 64 = omega arith in
+      let s = fitting-sized size r d is few in
+      let rd = roomy-ready h g size low (s .least) (s .most) (f .1) in (
+        low,
+        record {
+          lefts = new-left (view h) size g n low rd r d (leb from g) (f .1) (s .least) ph targets t pl (marks g low);
+          presses = new-pressed (view h) size g n low rd r d (leb from g) (f .1) (s .least) ph targets t (marks g low);
+          places = sited-out ph (placed-in (view h) size r d (leb from g) g) (new-placed (view h) size g n low rd r d (leb from g) (f .1) (s .least) ph pl);
+        },
+      )
+
+  pub made-harmless : Harmless (new-pages (view h) r d from)
+  made-harmless = by (new-page (view h) r d) refl
+    where
+      by : (o : Option ℕ) → new-page (view h) r d ≡ o → Harmless (made o)
+      by None e = record { lefts = omega arith; presses = omega arith; places = sited-out ph (view h) pl }
+      by (Some g) e = let f = new-found (view h) r d g e in in-page g (fitting (2 + r + d)) refl (f .0) (f .1) .1
+
+  pub made-heap : (k : Heap) → k .pages ≡ view h → k .phase ≡ stage ph targets → with-pages k (new-pages (view h) r d from) ≡ new-heap k r d
+  made-heap k ps phs =
+      by (new-page (view h) r d) refl
+      ∙ ap₂ (λ (x : List Page) (y : Stage). if-some (new-page x r d) (λ g. with-pages k (placed-in x (fitting (2 + r + d)) r d (allocated-marked y g) g)) k) (sym ps) (sym phs)
+    where
+      by : (o : Option ℕ) → new-page (view h) r d ≡ o
+          → with-pages k (made o) ≡ if-some o (λ g. with-pages k (placed-in (view h) (fitting (2 + r + d)) r d (allocated-marked (stage ph targets) g) g)) k
+      by None e = ap (with-pages k) (sym ps)
+      by (Some g) e =
+          let f = new-found (view h) r d g e in
+          ap (λ (b : Bool). with-pages k (placed-in (view h) (fitting (2 + r + d)) r d b g)) (marks g (in-page g (fitting (2 + r + d)) refl (f .0) (f .1) .0))

@@ -17,68 +17,25 @@ use Rattle.model.specs.Classes.{sizes}
 use Rattle.model.specs.Maps.{has}
 use Rattle.model.specs.Pages.{Block, Page, uncut, number, page-of, slot-of, page-at, block-at, put-block, with-slots, with-closed, in-class, free, occupied, lowest-free}
 use Rattle.model.specs.State.{Heap, idle, moving, with-pages, with-phase}
-use Rattle.model.specs.Units.{lesser, least-page, is-current, lowest-current, with-forward, moved, class-done, close-page, choose-source, free-in-class}
+use Rattle.model.specs.Units.{least-page, source-page, target-page, is-current, lowest-current, with-forward, moved, class-done, close-page, choose-source, free-in-class}
+use Rattle.pages.specs.Choices.{movable, source-of}
+use Rattle.pages.proofs.Least.{least-found}
+use Rattle.pages.proofs.Choices.{movable-is}
 use Rattle.heap.specs.declared.heap.Heap.{Heap as Blocks}
-use Rattle.heap.specs.Of.{view}
-use Rattle.heap.proofs.OfLaws.{long, few-slots}
+use Rattle.heap.specs.View.{view, target-of, target-number}
+use Rattle.heap.proofs.Views.{long, few-slots}
 use Rattle.collector.specs.declared.phase.Phase.{Phase}
 use Rattle.collector.specs.declared.phase.Phase.the-variants.{Idle, Roots, Marking, Sweeping, Moving}
 use Rattle.collector.specs.Counts.{sum-of, is-spent, page-spent, spent, stays, slot-stays}
 use Rattle.collector.specs.Sound.{left, pressed, at-hand, Source, Placed, placed}
-use Rattle.collector.specs.Moving.{next-of, chosen, least-source, picked}
+use Rattle.collector.specs.Moving.{next-of}
 use Rattle.collector.specs.View.{stage}
 use Rattle.collector.proofs.Sums.{sum-set, sum-bound, some-within, block-slot, page-within}
 use Rattle.collector.proofs.Sounds.{placed-in, placed-out}
 
--- ---- the least page is one of the pages
-
-lesser-either : (a b : Option (ℕ × ℕ)) (x : ℕ × ℕ) → lesser a b ≡ Some x → (a ≡ Some x) ⊎ (b ≡ Some x)
-lesser-either None b x e = inr e
-lesser-either (Some a) None x e = inl e
-lesser-either (Some a) (Some b) x e = by (leb (a .0) (b .0)) e
-  where
-    by : (t : Bool) → cond t (Some a) (Some b) ≡ Some x → (Some a ≡ Some x) ⊎ (Some b ≡ Some x)
-    by true q = inl q
-    by false q = inr q
-
-module _ (f : ℕ → Page → Bool) (m : Page → ℕ) where
-  least-at : (a : ℕ) (ps : List Page) (x : ℕ × ℕ) → least-page f m a ps ≡ Some x
-      → (k : ℕ) × (x .1 ≡ a + k) × (k < length ps) × (f (a + k) (getD ps k uncut) ≡ true)
-  least-at a [] x e = let z : _≡_ {A = ℕ} 0 1 = cc in absurd (omega arith)
-  least-at a (p ∷ ps) x e =
-      go (λ q. least-at (suc a) ps x q) (lesser-either (cond (f a p) (Some (m p, a)) None) (least-page f m (suc a) ps) x e)
-    where
-      here : (t : Bool) → f a p ≡ t → cond t (Some (m p, a)) None ≡ Some x → (k : ℕ) × (x .1 ≡ a + k) × (k < length (p ∷ ps)) × (f (a + k) (getD (p ∷ ps) k uncut) ≡ true)
-      here true t q =
-          let r : (m p, a) ≡ x = cc in
-          let s : a ≡ x .1 = ap (λ (y : ℕ × ℕ). y .1) r in
-          let z : a + 0 ≡ a = omega arith in
-          (0, omega arith, omega arith, ap (λ (y : ℕ). f y p) z ∙ t)
-      here false t q = let z : _≡_ {A = ℕ} 0 1 = cc in absurd (omega arith)
-
-      go : (least-page f m (suc a) ps ≡ Some x → (k : ℕ) × (x .1 ≡ suc a + k) × (k < length ps) × (f (suc a + k) (getD ps k uncut) ≡ true))
-          → (cond (f a p) (Some (m p, a)) None ≡ Some x) ⊎ (least-page f m (suc a) ps ≡ Some x)
-          → (k : ℕ) × (x .1 ≡ a + k) × (k < length (p ∷ ps)) × (f (a + k) (getD (p ∷ ps) k uncut) ≡ true)
-      go rest (inl q) = here (f a p) refl q
-      go rest (inr q) =
-          let i = rest q in
-          let u = i .1 in
-          let v = i .2 in
-          let z : a + suc (i .0) ≡ suc a + i .0 = omega arith in
-          (suc (i .0), omega arith, omega arith, ap (λ (y : ℕ). f y (getD ps (i .0) uncut)) z ∙ i .3)
-
-  pub least-found : (ps : List Page) (x : ℕ × ℕ) → least-page f m 0 ps ≡ Some x → (x .1 < length ps) × (f (x .1) (page-at ps (x .1)) ≡ true)
-  least-found ps x e =
-      let i = least-at 0 ps x e in
-      let u = i .1 in
-      let v = i .2 in
-      let q : x .1 ≡ i .0 = omega arith in
-      let z : x .1 ≡ 0 + i .0 = u in
-      (omega arith, ap₂ (λ (y k : ℕ). f y (getD ps k uncut)) z q ∙ i .3)
-
 -- ---- the source
 
-pub choose-is : (h : Heap) (k targets : ℕ) (o : Option (ℕ × ℕ)) → chosen (getD sizes k 0) (h .pages) o ≡ None → class-done h k targets ≡ choose-source h k targets o
+pub choose-is : (h : Heap) (k targets : ℕ) (o : Option (ℕ × ℕ)) → movable (getD sizes k 0) (h .pages) o ≡ None → class-done h k targets ≡ choose-source h k targets o
 choose-is h k targets None e = refl
 choose-is h k targets (Some x) e = by (leb (x .0) (free-in-class (getD sizes k 0) (x .1) 0 (h .pages))) e
   where
@@ -87,7 +44,7 @@ choose-is h k targets (Some x) e = by (leb (x .0) (free-in-class (getD sizes k 0
     by true q = let z : _≡_ {A = ℕ} 0 1 = cc in absurd (omega arith)
     by false q = refl
 
-pub choose-some : (h : Heap) (k targets g : ℕ) (o : Option (ℕ × ℕ)) → chosen (getD sizes k 0) (h .pages) o ≡ Some g
+pub choose-some : (h : Heap) (k targets g : ℕ) (o : Option (ℕ × ℕ)) → movable (getD sizes k 0) (h .pages) o ≡ Some g
     → with-phase (with-pages h (close-page (h .pages) g true)) (moving k (Some g) targets) ≡ choose-source h k targets o
 choose-some h k targets g None e = let z : _≡_ {A = ℕ} 0 1 = cc in absurd (omega arith)
 choose-some h k targets g (Some x) e = by (leb (x .0) (free-in-class (getD sizes k 0) (x .1) 0 (h .pages))) e
@@ -96,14 +53,6 @@ choose-some h k targets g (Some x) e = by (leb (x .0) (free-in-class (getD sizes
         → with-phase (with-pages h (close-page (h .pages) g true)) (moving k (Some g) targets)
         ≡ cond t (with-phase (with-pages h (close-page (h .pages) (x .1) true)) (moving k (Some (x .1)) targets)) (class-done h k targets)
     by true q = let r : g ≡ x .1 = cc in ap (λ (y : ℕ). with-phase (with-pages h (close-page (h .pages) y true)) (moving k (Some y) targets)) r
-    by false q = let z : _≡_ {A = ℕ} 0 1 = cc in absurd (omega arith)
-
-chosen-least : (size : ℕ) (ps : List Page) (o : Option (ℕ × ℕ)) (g : ℕ) → chosen size ps o ≡ Some g → (x : ℕ × ℕ) × (o ≡ Some x) × (x .1 ≡ g)
-chosen-least size ps None g e = let z : _≡_ {A = ℕ} 0 1 = cc in absurd (omega arith)
-chosen-least size ps (Some x) g e = by (leb (x .0) (free-in-class size (x .1) 0 ps)) e
-  where
-    by : (t : Bool) → cond t (Some (x .1)) None ≡ Some g → (y : ℕ × ℕ) × (Some x ≡ Some y) × (y .1 ≡ g)
-    by true q = let r : x .1 ≡ g = cc in (x, refl, r)
     by false q = let z : _≡_ {A = ℕ} 0 1 = cc in absurd (omega arith)
 
 -- a page of the class that is open
@@ -120,9 +69,9 @@ opened size p e =
     let a = and-parts (eqb (p .size) size) (not (p .closed)) e in
     record { size-is = eqb-true (p .size) size (a .0); open-is = not-true (p .closed) (a .1) }
 
-pub picked-open : (k targets : ℕ) (ps : List Page) (g : ℕ) → picked k targets ps ≡ Some g → (g < length ps) × Open (getD sizes k 0) (page-at ps g)
+pub picked-open : (k targets : ℕ) (ps : List Page) (g : ℕ) → movable (getD sizes k 0) ps (source-page ps (getD sizes k 0) targets) ≡ Some g → (g < length ps) × Open (getD sizes k 0) (page-at ps g)
 picked-open k targets ps g e =
-    let i = chosen-least (getD sizes k 0) ps (least-source k targets ps) g e in
+    let i = movable-is (getD sizes k 0) ps (source-page ps (getD sizes k 0) targets) g e in
     let x : ℕ × ℕ = i .0 in
     let f = least-found (λ n p. in-class (getD sizes k 0) p && not (has targets n)) (λ p. occupied (p .slots)) ps x (i .1) in
     let P : ℕ → Type 0 = λ y. (y < length ps) × Open (getD sizes k 0) (page-at ps y) in
@@ -420,3 +369,24 @@ module _ (ps : List Page) (n : length ps ≡ 64) (g s t z : ℕ) (gl : g < 64) (
       let a = placed-in (Moving k (Some g)) ps p in
       let c = ap (λ (xs : List Page). page-at xs g) e ∙ end-at in
       placed-out (Moving k (Some g)) qs (a .0, (a .1 .0, ap (λ (x : Page). x .closed) c ∙ a .1 .1, ap (λ (x : Page). x .size) c ∙ a .1 .2))
+
+-- ---- the choices of the pages
+
+pub source-in : (ps : List Page) (k targets : ℕ) → k < 20 → source-of ps k targets ≡ movable (getD sizes k 0) ps (source-page ps (getD sizes k 0) targets)
+source-in ps k targets l = ap (λ (b : Bool). cond b (movable (getD sizes k 0) ps (source-page ps (getD sizes k 0) targets)) None) (lt-ltb k 20 l)
+
+pub target-in : (ps : List Page) (k g s : ℕ) (b : Block) → s < 64 → block-at ps (number g s) ≡ Some b → page-at ps g .closed ≡ true → page-at ps g .size ≡ getD sizes k 0
+    → target-of ps (number g s) (block-at ps (number g s)) ≡ target-page ps (getD sizes k 0)
+target-in ps k g s b l is closed size =
+    let x : page-of (number g s) ≡ g = omega arith in
+    ap (target-of ps (number g s)) is
+    ∙ ap (λ (i : ℕ). cond (page-at ps i .closed) (target-page ps (page-at ps i .size)) None) x
+    ∙ ap₂ (λ (c : Bool) (z : ℕ). cond c (target-page ps z) None) closed size
+
+pub no-target : (o : Option (ℕ × ℕ)) → None ≡ target-number o → o ≡ None
+no-target None e = refl
+no-target (Some x) e = let z : _≡_ {A = ℕ} 0 1 = cc in absurd (omega arith)
+
+pub a-target : (o : Option (ℕ × ℕ)) (t : ℕ) → Some t ≡ target-number o → (v : ℕ) × (o ≡ Some (v, t))
+a-target None t e = let z : _≡_ {A = ℕ} 0 1 = cc in absurd (omega arith)
+a-target (Some x) t e = let q : t ≡ x .1 = cc in (x .0, ap (λ (y : ℕ). Some (x .0, y)) (sym q))

@@ -16,8 +16,8 @@ use Rattle.std.proofs.shelf.Lists.{at-drop-more, at-drop-all}
 use Rattle.model.specs.Pages.{Block, Page, uncut, page-of, slot-of, page-at, block-at, put-block, with-slots, current, refs-of}
 use Rattle.model.specs.State.{Heap, with-pages}
 use Rattle.model.specs.Units.{grey, marked-block, with-refs, scan}
-use Rattle.heap.specs.Whole.{write-ref, write-ref-in, marking, mark-in}
-use Rattle.heap.specs.Of.{white-of}
+use Rattle.heap.specs.Blocks.{write-ref, write-ref-in, marking, mark-in}
+use Rattle.heap.specs.View.{white-of}
 use Rattle.collector.specs.View.{rescan-at}
 use Rattle.collector.proofs.Sums.{some-within, block-slot, page-within}
 use Rattle.collector.proofs.Sounds.{grey-white, grey-not}

@@ -14,16 +14,16 @@ use Rattle.model.specs.Classes.{sizes}
 use Rattle.model.specs.Pages.{Block, Page, uncut, page-of, slot-of, page-at, block-at, put-block, current, with-slots}
 use Rattle.model.specs.State.{Heap}
 use Rattle.model.specs.Units.{grey, grey-block, marked-block}
-use Rattle.heap.specs.Whole.{marking, mark-in, write-ref, write-ref-in}
-use Rattle.heap.specs.Of.{white-of}
+use Rattle.heap.specs.Blocks.{marking, mark-in, write-ref, write-ref-in}
+use Rattle.heap.specs.View.{white-of}
 use Rattle.collector.specs.declared.phase.Phase.{Phase}
 use Rattle.collector.specs.declared.phase.Phase.the-variants.{Idle, Roots, Marking, Sweeping, Moving}
 use Rattle.collector.specs.Counts.{sum-of, slot-white, page-white, white, spent, stays, slot-stays}
 use Rattle.collector.specs.Sound.{left, pressed, at-hand, Source, source, Placed, placed, Greys}
 use Rattle.collector.specs.View.{newest}
 use Rattle.heap.specs.declared.heap.Heap.{Heap as Blocks}
-use Rattle.heap.specs.Of.{view}
-use Rattle.heap.proofs.OfLaws.{long, few-slots}
+use Rattle.heap.specs.View.{view}
+use Rattle.heap.proofs.Views.{long, few-slots}
 use Rattle.collector.proofs.Sums.{sum-bound, sum-set, some-within, block-slot, page-within, put-sum}
 
 -- ---- the tests and what they say

@@ -1,4 +1,3 @@
-pub mod Table
 pub mod Counts
 pub mod Sound
 pub mod View

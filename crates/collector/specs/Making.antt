@@ -7,7 +7,7 @@ use Prim.Native.Nat.{ℕ, _+_, _-_, _<_, _≤_}
 use lib.ListN.{length, set}
 use Rattle.model.specs.Pages.{Page, occupied, put-block}
 use Rattle.model.specs.Making.{ready-pages, free-number}
-use Rattle.heap.specs.Of.{new-block}
+use Rattle.heap.specs.View.{new-block}
 
 -- the size of a block with so many references and words
 pub record Sized (size r d : ℕ) : Type 0 where

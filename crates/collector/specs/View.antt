@@ -1,20 +1,20 @@
 -- What a collector stands for, and what its calls make of that.
 use mathlib.Core.List.{List, [], _∷_}
-use mathlib.Core.Bool.{Bool, cond}
+use mathlib.Core.Bool.{cond}
 use Prim.Native.Nat.{ℕ, zero, suc, _+_}
 use lib.Dec.{ltb}
 use lib.ListN.{getD, set}
 use Rattle.std.specs.declared.option.Option.{Option}
 use Rattle.std.specs.declared.option.Option.the-variants.{Some, None}
 use Rattle.model.specs.Classes.{fitting}
-use Rattle.model.specs.Pages.{Block, Page, block-at, put-block, current, refs-of}
+use Rattle.model.specs.Pages.{block-at, current, refs-of}
 use Rattle.model.specs.State.{Heap, idle, roots, marking, sweeping, moving, with-pages, with-phase}
 use Rattle.model.specs.State.{Phase as Stage}
 use Rattle.model.specs.Units.{grey, with-refs, mark-unit, sweep-unit, move-unit, one-more}
-use Rattle.model.specs.Making.{barrier, allocated-marked, page-for, ready-pages, free-number, with-new}
+use Rattle.model.specs.Making.{barrier, with-new}
 use Rattle.model.specs.Calls.{alter, if-some}
-use Rattle.heap.specs.Whole.{write-ref}
-use Rattle.heap.specs.Of.{view}
+use Rattle.heap.specs.Blocks.{write-ref}
+use Rattle.heap.specs.View.{view, new-page}
 use Rattle.collector.specs.declared.phase.Phase.{Phase}
 use Rattle.collector.specs.declared.phase.Phase.the-variants.{Idle, Roots, Marking, Sweeping, Moving}
 use Rattle.collector.specs.declared.collector.Collector.{Collector}
@@ -38,14 +38,7 @@ heap-of c = record { pages = view (c .heap); work = newest (c .items) (c .top); 
 abbrev pub left-of : Collector → ℕ
 left-of c = left (c .phase) (view (c .heap)) (c .top)
 
--- the page for a record of `r` references and `d` words, which have 30 between them at most
-abbrev pub new-page : List Page → ℕ → ℕ → Option ℕ
-new-page ps r d = cond (ltb 30 (r + d)) None (page-for ps (fitting (2 + r + d)))
-
--- the number of the new block, and the heap with it
-abbrev pub new-number : List Page → ℕ → ℕ → Option ℕ
-new-number ps r d = if-some (new-page ps r d) (λ g. Some (free-number (ready-pages ps g (fitting (2 + r + d))) g)) None
-
+-- the heap with a new record of `r` references and `d` words, if there is room for it
 abbrev pub new-heap : Heap → ℕ → ℕ → Heap
 new-heap h r d = if-some (new-page (h .pages) r d) (λ g. with-new h g (fitting (2 + r + d)) r d) h
 

@@ -1,8 +1,9 @@
+// The blocks, and the collection of those that are not reached.
 ghost use mathlib.Core.Path.{_≡_};
 ghost use mathlib.Core.Bool.{true};
 ghost use Prim.Native.Nat.{ℕ, _+_, _<_, _≤_};
 ghost use lib.ListN.{length};
-ghost use Rattle.heap.specs.Of.{view};
+ghost use Rattle.heap.specs.View.{view};
 ghost use Rattle.collector.specs.Sound.{left, pressed, placed};
 
 mod making;
@@ -15,7 +16,7 @@ mod units;
 use super::phase::Phase;
 use heap::heap::Heap;
 
-// The blocks, and where their collection stands.
+// The blocks, the work list with its length, the phase, the pages moved into, and the units since the last begin.
 #[derive(Drop)]
 pub struct Collector {
     heap: Heap,

@@ -19,7 +19,8 @@ use Rattle.model.specs.State.{State, Heap, with-heap}
 use Rattle.model.specs.Making.{overwrite, page-for, ready-pages, free-number, with-new}
 use Rattle.model.specs.Refusals.{is-none, no-place, first-refusal}
 use Rattle.model.specs.Calls.{if-some, made-in, decided, apply}
-use Rattle.collector.specs.View.{new-number, new-heap}
+use Rattle.collector.specs.View.{new-heap}
+use Rattle.heap.specs.View.{new-number}
 
 module _ (s : State) (p r d n : ℕ) where
   abbrev number-if : Bool → Option ℕ → Option ℕ

@@ -1,4 +1,4 @@
--- Counts over pages and blocks, from the front.
+-- Counts and searches over the blocks, from the front.
 use mathlib.Core.Path.{_≡_, refl, sym, ap, _∙_}
 use mathlib.Core.Bool.{Bool, true, false, cond}
 use mathlib.Core.List.{List, [], _∷_}
@@ -10,14 +10,9 @@ use lib.ListN.{length, getD, drop}
 use Rattle.std.specs.declared.option.Option.{Option}
 use Rattle.std.specs.declared.option.Option.the-variants.{Some, None}
 use Rattle.std.proofs.shelf.Lists.{at-drop-more, at-drop-all}
-use Rattle.model.specs.Pages.{Block, Page, uncut, page-at, number, occupied, count-pages, count-slots, count-blocks}
-use Rattle.model.specs.Units.{is-current}
-
-pub pages-step : (f : Page → Bool) (ps : List Page) (g : ℕ) → g < length ps → count-pages f (drop g ps) ≡ cond (f (page-at ps g)) 1 0 + count-pages f (drop (g + 1) ps)
-pages-step f ps g h = at-drop-more (count-pages f) ps g uncut h
-
-pub pages-end : (f : Page → Bool) (ps : List Page) (g : ℕ) → length ps ≤ g → count-pages f (drop g ps) ≡ 0
-pages-end f ps g h = at-drop-all (count-pages f) ps g h
+use Rattle.model.specs.Pages.{Block, Page, uncut, page-at, number, occupied, count-slots, count-blocks}
+use Rattle.model.specs.Units.{is-current, lowest-current}
+use Rattle.heap.specs.View.{occupied-blocks}
 
 slot-cons : (g i : ℕ) (x : Option Block) (xs : List (Option Block)) → count-slots true g i (x ∷ xs) ≡ cond (is-current (number g i) x) 1 0 + count-slots true g (suc i) xs
 slot-cons g i None xs = omega arith
@@ -57,3 +52,19 @@ blocks-step c ps g h =
 
 pub blocks-end : (c : Bool) (ps : List Page) (g : ℕ) → length ps ≤ g → count-blocks c g (drop g ps) ≡ 0
 blocks-end c ps g h = at-drop-all (count-blocks c g) ps g h
+
+-- the lowest current block, slot by slot
+pub current-step : (g : ℕ) (xs : List (Option Block)) (s : ℕ) → s < length xs
+    → lowest-current g s (drop s xs) ≡ cond (is-current (number g s) (getD xs s None)) (Some s) (lowest-current g (s + 1) (drop (s + 1) xs))
+current-step g xs s h =
+    let e : lowest-current g s (drop s xs) ≡ cond (is-current (number g s) (getD xs s None)) (Some s) (lowest-current g (suc s) (drop (s + 1) xs)) =
+    at-drop-more (lowest-current g s) xs s None h in
+    e ∙ ap (λ (x : ℕ). cond (is-current (number g s) (getD xs s None)) (Some s) (lowest-current g x (drop (s + 1) xs))) (sym (add-one s))
+
+pub current-end : (g : ℕ) (xs : List (Option Block)) (s : ℕ) → length xs ≤ s → lowest-current g s (drop s xs) ≡ None
+current-end g xs s h = at-drop-all (lowest-current g s) xs s h
+
+-- current blocks and husks are the occupied blocks
+pub all-either-way : (g : ℕ) (ps : List Page) → count-blocks true g ps + count-blocks false g ps ≡ occupied-blocks ps
+all-either-way g [] = omega arith
+all-either-way g (p ∷ ps) = let a = either-way g 0 (p .slots) in let b = all-either-way (suc g) ps in omega arith

@@ -1,3 +1,4 @@
+// Greying, the barrier, and the units of marking.
 ghost use mathlib.Core.Path.{_≡_};
 ghost use Prim.Native.Nat.{ℕ, _+_, suc, _<_, _≤_};
 ghost use lib.ListN.{length, getD};
@@ -5,8 +6,8 @@ ghost use Rattle.model.specs.Pages.{block-at, refs-of};
 ghost use Rattle.model.specs.State.{with-pages};
 ghost use Rattle.model.specs.Units.{grey, scan, mark-unit};
 ghost use Rattle.model.specs.Making.{barrier};
-ghost use Rattle.heap.specs.Whole.{write-ref};
-ghost use Rattle.heap.specs.Of.{view};
+ghost use Rattle.heap.specs.Blocks.{write-ref};
+ghost use Rattle.heap.specs.View.{view};
 ghost use Rattle.collector.specs.Sound.{Greys};
 ghost use Rattle.collector.specs.View.{heap-of, left-of, rescan-at, stored-in};
 use super::Collector;
@@ -43,22 +44,22 @@ impl Collector {
     }
 
     // Reference `f` of the block gets the value, if there is one.
-    fn set_ref(&mut self, n: u32, f: u32, v: u32)
+    fn set_reference(&mut self, n: u32, f: u32, v: u32)
         ensures heap { λ _. ⌜ heap-of (now (self .exit)) ≡ with-pages (heap-of (now (self .entry))) (write-ref (view (now (self .entry) .heap)) n f v) ⌝ }
         ensures phase { λ _. ⌜ now (self .exit) .phase ≡ now (self .entry) .phase ⌝ }
         ensures units { λ _. ⌜ now (self .exit) .units ≡ now (self .entry) .units ⌝ }
         ensures left { λ _. ⌜ left-of (now (self .exit)) ≡ left-of (now (self .entry)) ⌝ }
     {
-        self.heap.write_ref(n, f, v);
+        self.heap.write_reference(n, f, v);
     }
 
     // Reference `f` of the block gets the value, and what stood there is not lost.
     pub fn store(&mut self, n: u32, f: u32, v: u32)
         ensures { λ _. ⌜ heap-of (now (self .exit)) ≡ stored-in (heap-of (now (self .entry))) n f v ⌝ }
     {
-        let old = self.heap.read_ref(n, f);
+        let old = self.heap.read_reference(n, f);
         self.barrier(old);
-        self.set_ref(n, f, v);
+        self.set_reference(n, f, v);
     }
 
     // Reference `f` of the block gets its current form, which is greyed.
@@ -69,9 +70,9 @@ impl Collector {
         ensures units { λ _. ⌜ now (self .exit) .units ≡ now (self .entry) .units ⌝ }
         ensures left { λ _. ⌜ left-of (now (self .exit)) ≡ left-of (now (self .entry)) ⌝ }
     {
-        let r = self.heap.read_ref(n, f);
+        let r = self.heap.read_reference(n, f);
         let v = self.heap.current(r);
-        self.set_ref(n, f, v);
+        self.set_reference(n, f, v);
         self.grey(r);
     }
 
@@ -83,7 +84,7 @@ impl Collector {
         ensures units { λ _. ⌜ now (self .exit) .units ≡ now (self .entry) .units ⌝ }
         ensures left { λ _. ⌜ left-of (now (self .exit)) ≡ left-of (now (self .entry)) ⌝ }
     {
-        let count = self.heap.ref_count(n);
+        let (count, _) = self.heap.shape(n);
         for f in 0..count {
             self.rescan(n, f);
         }

@@ -1,27 +1,17 @@
+// The units of moving.
 ghost use mathlib.Core.Path.{_≡_};
-ghost use mathlib.Core.Bool.{_&&_};
-ghost use Prim.Native.Nat.{ℕ, _+_, _<_, _≤_};
-ghost use lib.Dec.{ltb};
+ghost use Prim.Native.Nat.{ℕ, _<_, _≤_};
 ghost use lib.ListN.{getD};
 ghost use Rattle.std.specs.declared.option.Option.the-variants.{Some, None};
 ghost use Rattle.model.specs.Classes.{sizes};
-ghost use Rattle.model.specs.Maps.{with-flag};
-ghost use Rattle.model.specs.Pages.{page-at, in-class, free};
-ghost use Rattle.model.specs.Units.{move-unit, move-from, move-to, least-page, lowest-current};
-ghost use Rattle.heap.specs.Of.{view};
+ghost use Rattle.model.specs.Pages.{page-at};
+ghost use Rattle.model.specs.Units.{move-unit, move-to, target-page, lowest-current};
+ghost use Rattle.heap.specs.View.{view};
 ghost use Rattle.collector.specs.View.{heap-of, left-of};
-ghost use Rattle.collector.specs.Moving.{next-of, picked};
+ghost use Rattle.collector.specs.Moving.{next-of};
 use super::Collector;
-use crate::classes::class_size;
 use crate::phase::Phase;
-
-// The map with flag `s` set.
-fn with_flag(map: u64, s: usize) -> u64
-    requires { ⌜ s < 64 ⌝ }
-    ensures { λ r. ⌜ r ≡ with-flag map s ⌝ }
-{
-    map | 1 << s
-}
+use pages::maps::with_flag;
 
 // What comes after a class is done.
 fn after_class(class: usize) -> Phase
@@ -38,24 +28,6 @@ fn after_class(class: usize) -> Phase
 }
 
 impl Collector {
-    // The page of the class whose blocks are to be moved, if they can be.
-    fn pick(&self, class: usize) -> Option<usize>
-        requires { ⌜ class < 20 ⌝ }
-        ensures { λ r. ⌜ r ≡ picked class (now (self .entry) .targets) (view (now (self .entry) .heap)) ⌝ }
-    {
-        let size = class_size(class);
-        match self.heap.least_used(size, self.targets) {
-            None => None,
-            Some((used, g)) => {
-                if used <= self.heap.free_in_class(size, g) {
-                    Some(g)
-                } else {
-                    None
-                }
-            }
-        }
-    }
-
     // A source is chosen and closed, or the class is done.
     fn choose(&mut self, class: usize)
         requires { ⌜ now self .phase ≡ Phase.Moving class None ⌝ }
@@ -63,12 +35,11 @@ impl Collector {
         ensures units { λ _. ⌜ now (self .exit) .units ≡ now (self .entry) .units ⌝ }
         ensures left { λ _. ⌜ left-of (now (self .exit)) < left-of (now (self .entry)) ⌝ }
     {
-        match self.pick(class) {
+        match self.heap.close_source(class, self.targets) {
             None => {
                 self.phase = after_class(class);
             }
             Some(g) => {
-                self.heap.close(g, true);
                 self.phase = Phase::Moving {
                     class,
                     source: Some(g),
@@ -77,23 +48,22 @@ impl Collector {
         }
     }
 
-    // Block `s` of the source goes to another page of the class, or the class is done.
+    // Block `s` of the source goes to another page of the class, or the source opens and the class is done.
     fn move_one(&mut self, class: usize, g: usize, s: usize)
         requires phase { ⌜ now self .phase ≡ Phase.Moving class (Some g) ⌝ }
         requires slot { ⌜ lowest-current g 0 (page-at (view (now self .heap)) g .slots) ≡ Some s ⌝ }
         ensures heap { λ _. ⌜ heap-of (now (self .exit)) ≡ move-to (heap-of (now (self .entry))) class (now (self .entry) .targets) g s
-            (least-page (λ n p. in-class (getD sizes class 0) p && ltb 0 (free p)) free 0 (view (now (self .entry) .heap))) ⌝ }
+            (target-page (view (now (self .entry) .heap)) (getD sizes class 0)) ⌝ }
         ensures units { λ _. ⌜ now (self .exit) .units ≡ now (self .entry) .units ⌝ }
         ensures left { λ _. ⌜ left-of (now (self .exit)) < left-of (now (self .entry)) ⌝ }
     {
-        let size = class_size(class);
-        match self.heap.least_room(size) {
+        let n = (64 * g + s + 1) as u32;
+        match self.heap.move_block(n) {
             None => {
-                self.heap.close(g, false);
+                self.heap.reopen(g);
                 self.phase = after_class(class);
             }
-            Some((_, t)) => {
-                let _ = self.heap.move_block((64 * g + s + 1) as u32, t);
+            Some(t) => {
                 self.targets = with_flag(self.targets, t);
             }
         }

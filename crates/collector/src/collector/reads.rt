@@ -7,7 +7,7 @@ ghost use Rattle.model.specs.Pages.{block-at, current, refs-of, words-of, count
 ghost use Rattle.model.specs.State.{fresh};
 ghost use Rattle.model.specs.Calls.{alter};
 ghost use Rattle.model.specs.Calls.{with-word as with-value};
-ghost use Rattle.heap.specs.Of.{shape-of};
+ghost use Rattle.heap.specs.View.{shape-of};
 ghost use Rattle.collector.specs.View.{heap-of};
 use super::Collector;
 use crate::phase::Phase;
@@ -60,7 +60,7 @@ impl Collector {
     pub fn reference(&self, n: u32, f: u32) -> u32
         ensures { λ r. ⌜ r ≡ getD (refs-of (block-at (heap-of (now (self .entry)) .pages) n)) f 0 ⌝ }
     {
-        self.heap.read_ref(n, f)
+        self.heap.read_reference(n, f)
     }
 
     // Word `w` of the block, 0 where there is none.
@@ -81,27 +81,27 @@ impl Collector {
     pub fn current_blocks(&self) -> u32
         ensures { λ r. ⌜ r ≡ current-blocks (heap-of (now (self .entry)) .pages) ⌝ }
     {
-        self.heap.count_blocks(true)
+        self.heap.current_blocks()
     }
 
     // How many blocks forward to a copy of theirs.
     pub fn husks(&self) -> u32
         ensures { λ r. ⌜ r ≡ husks (heap-of (now (self .entry)) .pages) ⌝ }
     {
-        self.heap.count_blocks(false)
+        self.heap.husks()
     }
 
     // How many pages are uncut.
     pub fn uncut_pages(&self) -> u32
         ensures { λ r. ⌜ r ≡ count-pages is-uncut (heap-of (now (self .entry)) .pages) ⌝ }
     {
-        self.heap.count_uncut()
+        self.heap.uncut_pages()
     }
 
     // How many pages are closed.
     pub fn closed_pages(&self) -> u32
         ensures { λ r. ⌜ r ≡ count-pages (λ p. p .closed) (heap-of (now (self .entry)) .pages) ⌝ }
     {
-        self.heap.count_closed()
+        self.heap.closed_pages()
     }
 }

@@ -1,3 +1,4 @@
+// The units of sweeping.
 ghost use mathlib.Core.Path.{_≡_};
 ghost use Prim.Native.Nat.{ℕ, _+_, _<_, _≤_};
 ghost use Rattle.model.specs.Units.{sweep-unit};
@@ -13,10 +14,10 @@ impl Collector {
         ensures units { λ _. ⌜ now (self .exit) .units ≡ now (self .entry) .units ⌝ }
         ensures left { λ _. ⌜ left-of (now (self .exit)) < left-of (now (self .entry)) ⌝ }
     {
-        self.heap.sweep_page(page);
+        self.heap.sweep(page);
         if page < 63 {
             self.phase = Phase::Sweeping { page: page + 1 };
-        } else if self.heap.count_uncut() >= 20 {
+        } else if self.heap.uncut_pages() >= 20 {
             self.phase = Phase::Idle;
         } else {
             self.targets = 0;

@@ -1,6 +1,6 @@
 use mathlib.Core.Path.{_≡_, refl}
 use native.Mathlib.Omega.{arith}
-use Rattle.heap.specs.Of.{view}
+use Rattle.heap.specs.View.{view}
 use Rattle.collector.specs.View.{newest}
 use Rattle.collector.proofs.Sounds.{white-bound}
 use Rattle.collector.proofs.collector.Collector.begin.Needs as need

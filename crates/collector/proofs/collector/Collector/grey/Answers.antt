@@ -7,8 +7,8 @@ use native.Mathlib.Numerals.{add-one}
 use lib.ListN.{length, set, length-set}
 use Rattle.model.specs.Pages.{Page, block-at, current}
 use Rattle.model.specs.State.{Heap}
-use Rattle.heap.specs.Whole.{marking}
-use Rattle.heap.specs.Of.{view, white-of}
+use Rattle.heap.specs.Blocks.{marking}
+use Rattle.heap.specs.View.{view, white-of}
 use Rattle.collector.specs.declared.collector.Collector.{Collector}
 use Rattle.collector.specs.Counts.{white}
 use Rattle.collector.specs.Sound.{left, pressed, placed, Greys}

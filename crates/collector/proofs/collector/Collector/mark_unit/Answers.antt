@@ -6,7 +6,7 @@ use lib.ListN.{length, getD}
 use Rattle.model.specs.Pages.{Page, block-at, refs-of}
 use Rattle.model.specs.State.{Heap}
 use Rattle.model.specs.Units.{scan, mark-unit}
-use Rattle.heap.specs.Of.{view}
+use Rattle.heap.specs.View.{view}
 use Rattle.collector.specs.declared.phase.Phase.{Phase}
 use Rattle.collector.specs.declared.phase.Phase.the-variants.{Idle, Roots, Marking, Sweeping, Moving}
 use Rattle.collector.specs.Counts.{white}

@@ -3,7 +3,7 @@ use Prim.Native.Nat.{ℕ, _+_, _<_, _≤_}
 use native.Mathlib.Omega.{arith}
 use lib.ListN.{length, getD}
 use Rattle.model.specs.Pages.{block-at, refs-of}
-use Rattle.heap.specs.Of.{view}
+use Rattle.heap.specs.View.{view}
 use Rattle.collector.specs.Sound.{Greys}
 use Rattle.collector.specs.View.{heap-of}
 use Rattle.collector.proofs.Scans.{scan-step, scan-count, scan-end}
@@ -20,7 +20,7 @@ loop-f-again c =
     let h = heap-of (c .loop-f .self) in
     let k = heap-of (c .rescan .last .self) in
     let i = c .loop-f .inv .3 in
-    let n = c .ref-count-count .ensures in
+    let n = ap (λ (p : ℕ × ℕ). p .0) (c .shape-count .ensures) in
     let t = c .loop-f-test .taken in (
       c .rescan .ensures .phase ∙ c .loop-f .inv .0,
       c .rescan .ensures .units ∙ c .loop-f .inv .1,
@@ -32,7 +32,7 @@ loop-f-again c =
 pub returns : need.returns
 returns c =
     let i = c .loop-f .inv .3 in
-    let n = c .ref-count-count .ensures in
+    let n = ap (λ (p : ℕ × ℕ). p .0) (c .shape-count .ensures) in
     record {
       heap = sym (scan-end (heap-of (c .loop-f .self)) (c .args .n) (c .loop-f .f) (omega arith)) ∙ c .loop-f .inv .4;
       phase = c .loop-f .inv .0;

@@ -2,7 +2,7 @@ use mathlib.Core.Path.{_≡_}
 use lib.ListN.{length, drop}
 use Rattle.model.specs.Pages.{block-at, refs-of}
 use Rattle.model.specs.Units.{scan}
-use Rattle.heap.specs.Of.{view}
+use Rattle.heap.specs.View.{view}
 use Rattle.collector.specs.View.{heap-of, left-of}
 use Rattle.collector.proofs.collector.Collector.scan.Given as given
 

@@ -7,7 +7,7 @@ use Rattle.std.specs.declared.option.Option.the-variants.{Some, None}
 use Rattle.model.specs.Pages.{Block, Page, block-at}
 use Rattle.model.specs.State.{Heap, with-pages}
 use Rattle.model.specs.Calls.{alter, with-word}
-use Rattle.heap.specs.Of.{view, write-word, write-word-in}
+use Rattle.heap.specs.View.{view, write-word, write-word-in}
 use Rattle.collector.specs.View.{heap-of}
 use Rattle.collector.proofs.Keeps.{Keeps, keep-left, keep-pressed, keep-placed, write-word-keeps}
 use Rattle.collector.proofs.collector.Collector.set_word.Needs as need

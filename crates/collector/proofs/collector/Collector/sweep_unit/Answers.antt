@@ -11,7 +11,7 @@ use Rattle.std.specs.declared.option.Option.the-variants.{Some, None}
 use Rattle.model.specs.Pages.{Page, page-at, count-pages, is-uncut}
 use Rattle.model.specs.State.{Heap, idle, roots, marking, sweeping, moving}
 use Rattle.model.specs.Units.{swept, after-sweep}
-use Rattle.heap.specs.Of.{view}
+use Rattle.heap.specs.View.{view}
 use Rattle.collector.specs.declared.collector.Collector.{Collector}
 use Rattle.collector.specs.declared.phase.Phase.{Phase}
 use Rattle.collector.specs.declared.phase.Phase.the-variants.{Idle, Roots, Marking, Sweeping, Moving}
@@ -25,6 +25,3 @@ low h g e = let P : Phase → Type 0 = λ x. Placed x (view (h .heap)) in subst 
 
 was : (h : Collector) (g : ℕ) → h .phase ≡ Sweeping g → left (h .phase) (view (h .heap)) (h .top) ≡ 6800 + (64 - g)
 was h g e = ap (λ (x : Phase). left x (view (h .heap)) (h .top)) e
-
-pub sweep-page-requires : need.sweep-page-requires
-sweep-page-requires c κs = low (c .args .self .now) (c .args .page) (c .pre)

@@ -2,7 +2,7 @@ use mathlib.Core.Path.{_≡_}
 use Prim.Native.Nat.{_+_, _*_, _≤_}
 use lib.ListN.{drop}
 use Rattle.model.specs.Pages.{count-blocks}
-use Rattle.heap.specs.Of.{view}
+use Rattle.heap.specs.View.{view}
 use Rattle.heap.proofs.heap.Heap.count_blocks.Given as given
 
 abbrev pub Inv-loop-g : given.InvT-loop-g

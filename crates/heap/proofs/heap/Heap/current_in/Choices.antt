@@ -3,7 +3,7 @@ use mathlib.Core.Bool.{true}
 use Prim.Native.Nat.{_+_, _≤_}
 use lib.ListN.{drop}
 use Rattle.model.specs.Pages.{page-at, count-slots}
-use Rattle.heap.specs.Of.{view}
+use Rattle.heap.specs.View.{view}
 use Rattle.heap.proofs.heap.Heap.current_in.Given as given
 
 abbrev pub Inv-loop-s : given.InvT-loop-s

@@ -1,129 +1,129 @@
-use mathlib.Core.Path.{_≡_, refl, sym, ap, _∙_, subst}
-use mathlib.Core.Logic.{inl, inr, _≢_}
+use mathlib.Core.Path.{_≡_, refl, sym, ap, ap₂, _∙_, subst}
+use mathlib.Core.Bool.{Bool}
 use mathlib.Core.List.{List, []}
-use mathlib.Core.Bool.{true, false}
-use Prim.Native.Nat.{ℕ, _+_, _*_, _/_, _%_, _<_, _≤_}
+use Prim.Native.Nat.{ℕ, _+_, _-_, _*_, _/_, _≤_, _<_}
 use native.Mathlib.Omega.{arith}
+use lib.Dec.{leb}
 use lib.ListN.{length, getD, set, length-set}
-use Rattle.std.proofs.shelf.Tests.{cases-eq}
-use Rattle.model.specs.Classes.{blocks}
-use Rattle.model.specs.Maps.{has}
-use Rattle.model.specs.Pages.{Page, number}
-use Rattle.heap.specs.declared.entry.Entry.{Entry}
-use Rattle.heap.specs.declared.heap.Heap.{Heap}
-use Rattle.heap.specs.View.{Cleared, filled, block-of, region}
-use Rattle.heap.specs.Whole.{entry-at, entry-view, block-words, pages-of, Fit}
-use Rattle.heap.specs.Of.{view, new-block}
-use Rattle.heap.proofs.ViewLaws.{block-end, new-block-is, cleared-less}
-use Rattle.heap.proofs.WholeLaws.{entry-read, size-is, lowest-within, lowest-off, fits-put, change-page, block-length, put-at, put-number}
+use Rattle.std.specs.declared.option.Option.{Option}
+use Rattle.std.specs.declared.option.Option.the-variants.{Some, None}
+use Rattle.model.specs.Classes.{fitting}
+use Rattle.model.specs.Pages.{Page, number, put-block}
+use Rattle.model.specs.Making.{ready-pages, free-number}
+use Rattle.model.specs.Calls.{if-some}
+use Rattle.pages.specs.declared.entry.Entry.{Entry}
+use Rattle.pages.specs.Entries.{pages-of, Taken}
+use Rattle.heap.specs.Blocks.{Fits}
+use Rattle.heap.specs.View.{view, new-block, new-page}
+use Rattle.heap.proofs.Views.{full}
+use Rattle.heap.proofs.Making.{new-over, new-some, new-none, made-room, made-wide, made-fits, made-at, made-view}
 use Rattle.heap.proofs.heap.Heap.make.Needs as need
+use Rattle.heap.proofs.heap.Heap.make.Needs.{then-r-gt30·by·then-r-gt30, then-r-gt30·by·else-r-gt30·then-d-r}
 
--- the lowest free block is a block of the page
-within : (c : need.After-lowest-s) → c .lowest-s .result < blocks (entry-at (c .args .self .now .entries) (c .args .g) .size)
-within c =
+-- the number of what is not made, and the pages without it
+module _ (ps : List Page) (r d from : ℕ) (e : new-page ps r d ≡ None) where
+  no-number : None ≡ if-some (new-page ps r d) (λ g. Some (free-number (ready-pages ps g (fitting (2 + r + d))) g)) None
+  no-number = sym (ap (λ (o : Option ℕ). if-some o (λ g. Some (free-number (ready-pages ps g (fitting (2 + r + d))) g)) None) e)
+
+  no-pages : ps ≡ if-some (new-page ps r d) (λ g. put-block (ready-pages ps g (fitting (2 + r + d))) (free-number (ready-pages ps g (fitting (2 + r + d))) g) (new-block (free-number (ready-pages ps g (fitting (2 + r + d))) g) (leb from g) r d)) ps
+  no-pages = sym (ap (λ (o : Option ℕ). if-some o (λ g. put-block (ready-pages ps g (fitting (2 + r + d))) (free-number (ready-pages ps g (fitting (2 + r + d))) g) (new-block (free-number (ready-pages ps g (fitting (2 + r + d))) g) (leb from g) r d)) ps) e)
+
+pub returns-then-r-gt30 : need.returns-then-r-gt30
+returns-then-r-gt30 c =
     let h = c .args .self .now in
-    lowest-within (h .entries) (h .words) (c .args .g) (h .count) (h .tall) (c .pre .page) (c .lowest-s .result) (c .lowest-s .ensures) (c .pre .room)
+    let over : 30 < c .args .r + c .args .d =
+    elim (c .then-r-gt30 .came) [
+      | then-r-gt30·by·then-r-gt30 w ↦ (let a = w .if-r-gt30 .taken in omega arith)
+      | then-r-gt30·by·else-r-gt30·then-d-r w ↦ (let a = w .if-d-r .taken in let b = w .if-r-gt30 .left in omega arith)
+    ] in
+    let e = new-over (view h) (c .args .r) (c .args .d) over in
+    record { number = no-number (view h) (c .args .r) (c .args .d) (c .args .mark-from) e; view = no-pages (view h) (c .args .r) (c .args .d) (c .args .mark-from) e }
 
-small : (c : need.After-lowest-s) → c .lowest-s .result < 64
-small c = let w = within c in let f = entry-at (c .args .self .now .entries) (c .args .g) .few in omega arith
+-- the block that was taken, by the size that the code has
+taken : (es fs : List Entry) (g z size f : ℕ) (m : Bool) → size ≡ f → Taken es fs g z f m → Taken es fs g z size m
+taken es fs g z size f m e tk = let T : ℕ → Type 0 = λ x. Taken es fs g z x m in subst T (sym e) tk
 
-pub cast-n : need.cast-n
-cast-n c = let w = small c in let p = c .pre .page in omega arith
+few-of : (r d : ℕ) → r ≤ 30 → d ≤ 30 - r → r + d ≤ 30
+few-of r d a b = omega arith
 
 pub clear-requires : need.clear-requires
 clear-requires c κs =
     let h = c .args .self .now in
-    let z = size-is (h .entries) (h .words) (c .args .g) (h .count) (h .tall) (c .pre .page) in
-    let w = lowest-within (h .entries) (h .words) (c .args .g) (h .count) (h .tall) (c .pre .page) (c .lowest-s .result) (c .lowest-s .ensures) (c .pre .room) in
-    let f = c .pre .fit in
-    let k = c .pre .few in
-    record {
-      page = c .pre .page;
-      room = block-end (entry-at (h .entries) (c .args .g) .size) (c .lowest-s .result) w;
-      fit = omega arith;
-      within = (omega arith, omega arith);
-      free = lowest-off (h .entries) (h .words) (c .args .g) (h .count) (h .tall) (c .pre .page) (c .lowest-s .result) (c .lowest-s .ensures);
-    }
-
-pub take-requires : need.take-requires
-take-requires c κs =
-    let h = c .args .self .now in
-    let h′ = c .clear .last .self in
-    let k = h′ .count in
-    let p = c .pre .page in
-    let P : Entry → Type 0 = λ e. c .lowest-s .result < 256 / e .size in
-    let Q : List Entry → Type 0 = λ es. c .lowest-s .result < 256 / entry-at es (c .args .g) .size in
-    subst P (sym (entry-read (h′ .entries) (c .args .g) (c .index-self-g .result) (omega arith)))
-    (subst Q (sym (c .clear .ensures .entries))
-    (lowest-within (h .entries) (h .words) (c .args .g) (h .count) (h .tall) (c .pre .page) (c .lowest-s .result) (c .lowest-s .ensures) (c .pre .room)))
+    let few = few-of (c .args .r) (c .args .d) (c .if-r-gt30 .left) (c .if-d-r .left) in
+    let t = taken (h .pages .entries) (c .allocate .last .self .entries) (c .in-Some .page) (c .in-Some .slot) (c .fitting .result) (fitting (2 + c .args .r + c .args .d)) (leb (c .args .mark-from) (c .in-Some .page))
+    (c .fitting .ensures .size) (c .in-Some .ensures tt .block .0) in (
+      two (c .args .r) (c .args .d),
+      (
+        made-room (h .pages .entries) (c .allocate .last .self .entries) (h .words) (c .in-Some .page) (c .in-Some .slot) (c .fitting .result) (c .args .r) (c .args .d) (leb (c .args .mark-from) (c .in-Some .page)) t (full h) (h .wide) few (c .fitting .ensures .smallest),
+        h .wide (c .in-Some .page) (t .low),
+      ),
+    )
+  where
+    two : (r d : ℕ) → 2 ≤ 2 + r + d
+    two r d = omega arith
 
 pub ghost-self : need.ghost-self
 ghost-self c =
     let h = c .args .self .now in
-    let h′ = c .clear .last .self in
-    let g : ℕ = c .args .g in
-    let s : ℕ = c .lowest-s .result in
-    let k = h′ .count in
-    let p = c .pre .page in
-    let q : getD (h′ .entries) g (c .index-self-g .result) ≡ entry-at (h′ .entries) g = entry-read (h′ .entries) g (c .index-self-g .result) (omega arith) in
-    let size : c .take .last .self .size ≡ entry-at (h′ .entries) g .size = c .take .ensures .size ∙ ap (λ (e : Entry). e .size) q in
-    let fit : 2 + (c .args .r + c .args .d) ≤ entry-at (h′ .entries) g .size =
-    (let z = size-is (h .entries) (h .words) g (h .count) (h .tall) (c .pre .page) in
-    let y = ap (λ (es : List Entry). entry-at es g .size) (c .clear .ensures .entries) in
-    let f = c .pre .fit in omega arith) in
-    let few = c .pre .few in
-    let second = c .clear .ensures .block .second in
-    let each : (j : ℕ) → has (c .take .last .self .occupied) j ≡ true → Fit (entry-at (h′ .entries) g .size) (block-words (h′ .entries) (h′ .words) g j) =
-    λ j on. elim (cases-eq j s) [
-      | inl e ↦
-          let S : ℕ → Type 0 = λ x. Fit (entry-at (h′ .entries) g .size) (block-words (h′ .entries) (h′ .words) g x) in
-          let N : ℕ → Type 0 = λ x. 2 + (x % 32 + x / 32) ≤ entry-at (h′ .entries) g .size in
-          subst S (sym e) (subst N (sym second) (omega arith))
-      | inr ne ↦ h′ .fits g j (c .pre .page) (sym (ap (λ (x : Entry). has (x .occupied) j) q) ∙ c .take .ensures .more j on ne)
-    ] in (
-      length-set (h′ .entries) g (c .take .last .self) ∙ h′ .count,
+    let same = c .in-None .ensures tt .block .0 in
+    let F : List Entry → Type 0 = λ es. Fits es (h .words) in
+    (ap length same ∙ h .count, (h .tall, (h .wide, (subst F (sym same) (h .fits), tt))))
+
+pub returns-in-None : need.returns-in-None
+returns-in-None c =
+    let h = c .args .self .now in
+    let a = c .if-d-r .left in
+    let b = c .if-r-gt30 .left in
+    let e = new-none (view h) (c .args .r) (c .args .d) (omega arith) (c .in-None .ensures tt .block .1 (h .words) (full h)) in
+    record {
+      number = no-number (view h) (c .args .r) (c .args .d) (c .args .mark-from) e;
+      view = ap (λ (es : List Entry). pages-of es (h .words)) (c .in-None .ensures tt .block .0) ∙ no-pages (view h) (c .args .r) (c .args .d) (c .args .mark-from) e;
+    }
+
+pub ghost-self-in-Some : need.ghost-self-in-Some
+ghost-self-in-Some c =
+    let h = c .args .self .now in
+    let es = h .pages .entries in
+    let fs = c .allocate .last .self .entries in
+    let g : ℕ = c .in-Some .page in
+    let z : ℕ = c .in-Some .slot in
+    let m : Bool = leb (c .args .mark-from) g in
+    let few = few-of (c .args .r) (c .args .d) (c .if-r-gt30 .left) (c .if-d-r .left) in
+    let t = taken es fs g z (c .fitting .result) (fitting (2 + c .args .r + c .args .d)) m (c .fitting .ensures .size) (c .in-Some .ensures tt .block .0) in (
+      t .count ∙ h .count,
       (
-        h′ .tall,
+        length-set (h .words) g (c .clear .last .words) ∙ h .tall,
         (
-          h′ .wide,
+          made-wide es fs (h .words) g z (c .fitting .result) (c .args .r) (c .args .d) m t (full h) (h .wide) few (c .fitting .ensures .smallest) (number g z) (c .clear .last .words) (c .clear .ensures),
           (
-            fits-put (h′ .entries) (h′ .words) g (c .take .last .self) (h′ .fits) (h′ .count) (c .pre .page)
-                (λ j on. let R : ℕ → Type 0 = λ x. Fit x (region x (getD (h′ .words) g []) j) in subst R (sym size) (each j on)),
+            made-fits es fs (h .words) g z (c .fitting .result) (c .args .r) (c .args .d) m t (full h) (h .wide) few (c .fitting .ensures .smallest) (number g z) (c .clear .last .words) (c .clear .ensures) (h .fits),
             tt,
           ),
         ),
       ),
     )
 
-pub returns : need.returns
-returns c =
+pub returns-in-Some : need.returns-in-Some
+returns-in-Some c =
     let h = c .args .self .now in
-    let h′ = c .clear .last .self in
-    let g : ℕ = c .args .g in
-    let s : ℕ = c .lowest-s .result in
-    let n : ℕ = 64 * g + s + 1 in
-    let k = h′ .count in
-    let p = c .pre .page in
-    let ws : List ℕ = getD (h′ .words) g [] in
-    let q : getD (h′ .entries) g (c .index-self-g .result) ≡ entry-at (h′ .entries) g = entry-read (h′ .entries) g (c .index-self-g .result) (omega arith) in
-    let w : s < blocks (entry-at (h .entries) g .size) =
-    lowest-within (h .entries) (h .words) g (h .count) (h .tall) (c .pre .page) s (c .lowest-s .ensures) (c .pre .room) in
-    let f = entry-at (h .entries) g .few in
-    let y : entry-at (h′ .entries) g .size ≡ entry-at (h .entries) g .size = ap (λ (es : List Entry). entry-at es g .size) (c .clear .ensures .entries) in
-    let z = size-is (h .entries) (h .words) g (h .count) (h .tall) (c .pre .page) in
-    let B : ℕ → Type 0 = λ x. s * x + x ≤ 256 in
-    let len = block-length (h′ .entries) (h′ .words) g s (h′ .wide) (c .pre .page) (subst B (sym y) (block-end (entry-at (h .entries) g .size) s w)) in
-    let few = c .pre .few in
-    let fit = c .pre .fit in
-    let rs : List ℕ = block-words (h′ .entries) (h′ .words) g s in
+    let es = h .pages .entries in
+    let fs = c .allocate .last .self .entries in
+    let g : ℕ = c .in-Some .page in
+    let z : ℕ = c .in-Some .slot in
+    let r : ℕ = c .args .r in
+    let d : ℕ = c .args .d in
+    let m : Bool = leb (c .args .mark-from) g in
+    let few = few-of r d (c .if-r-gt30 .left) (c .if-d-r .left) in
+    let is = c .fitting .ensures .size in
+    let t = taken es fs g z (c .fitting .result) (fitting (2 + r + d)) m is (c .in-Some .ensures tt .block .0) in
+    let e = new-some (view h) r d g few (c .in-Some .ensures tt .block .1 (h .words) (full h)) in
     record {
-      number = ap (number g) (c .lowest-s .ensures);
+      number =
+          ap Some (made-at es fs (h .words) g z (c .fitting .result) r d m t (full h) (h .wide) few (c .fitting .ensures .smallest) (number g z) (c .clear .last .words) (c .clear .ensures) refl)
+          ∙ ap (λ (x : ℕ). Some (free-number (ready-pages (view h) g x) g)) is
+          ∙ sym (ap (λ (o : Option ℕ). if-some o (λ g. Some (free-number (ready-pages (view h) g (fitting (2 + r + d))) g)) None) e);
       view =
-          change-page (λ x. filled x s (block-of (c .args .marked) rs)) (h′ .entries) (h′ .words) g (c .take .last .self) (h′ .count) (h′ .tall) (c .pre .page)
-          (c .take .ensures .view ws ∙ ap (λ (e : Entry). filled (entry-view e ws) s (block-of (c .args .marked) (region (e .size) ws s))) q)
-          ∙ ap (put-at (pages-of (h′ .entries) (h′ .words)) g s)
-          (new-block-is (c .args .marked) rs n (c .args .r) (c .args .d) (omega arith) (omega arith)
-          (cleared-less rs n (c .args .r + 32 * c .args .d) (2 + c .args .r + c .args .d) (2 + (c .args .r + c .args .d)) (c .clear .ensures .block) (omega arith)))
-          ∙ ap (λ (ps : List Page). put-at ps g s (new-block n (c .args .marked) (c .args .r) (c .args .d))) (c .clear .ensures .view)
-          ∙ put-number (view h) g s (new-block n (c .args .marked) (c .args .r) (c .args .d)) (omega arith);
+          made-view es fs (h .words) g z (c .fitting .result) r d m t (full h) (h .wide) few (c .fitting .ensures .smallest) (number g z) (c .clear .last .words) (c .clear .ensures) refl
+          ∙ ap (λ (x : ℕ). put-block (ready-pages (view h) g x) (free-number (ready-pages (view h) g x) g) (new-block (free-number (ready-pages (view h) g x) g) m r d)) is
+          ∙ sym (ap (λ (o : Option ℕ). if-some o (λ g. put-block (ready-pages (view h) g (fitting (2 + r + d))) (free-number (ready-pages (view h) g (fitting (2 + r + d))) g) (new-block (free-number (ready-pages (view h) g (fitting (2 + r + d))) g) (leb (c .args .mark-from) g) r d)) (view h)) e);
     }
