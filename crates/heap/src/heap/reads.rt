@@ -13,8 +13,9 @@ impl Heap {
     pub fn new() -> Heap
         ensures { λ r. ⌜ view r ≡ replicate 64 uncut ⌝ }
     {
+        let pages = Table::new();
         Heap {
-            pages: Table::new(),
+            pages,
             words: [[0; 256]; 64],
         }
     }
