@@ -1,4 +1,6 @@
 // Holds the two agendas against each other, and takes a day's events from the ordered one.
+#![tactic(auto)]
+
 use comparison::rounds_alike;
 use day::show_day;
 use std::io;

@@ -1,4 +1,6 @@
 // What can be asked of a record store, what it answers, and why it refuses.
+#![tactic(auto)]
+
 ghost use Rattle.std.specs.Prelude.{◌≡◌};
 ghost use Rattle.calls.specs.Numbers.{letter_of, number_of};
 

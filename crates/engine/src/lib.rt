@@ -1,4 +1,6 @@
 // The fourteen calls on a collector, a holder and an agenda.
+#![tactic(auto)]
+
 pub mod engine;
 mod making;
 pub mod performs;

@@ -1,4 +1,6 @@
 // The graph that never collects, as a program: what the calls mean to a planner, with memory as the one bound.
+#![tactic(auto)]
+
 ghost use Rattle.std.specs.Prelude.{◌≡◌, IfOk};
 ghost use Rattle.model.specs.Graph.{empty};
 ghost use Rattle.graph.specs.View.{graph_of};

@@ -1,4 +1,6 @@
 // Histories: any calls one after the other on the graph, and the order in which their events come.
+#![tactic(auto)]
+
 ghost use Rattle.histories.specs.Day.{DayInOrder};
 ghost use Rattle.histories.specs.Order.{EveryCallContinues};
 

@@ -1,4 +1,6 @@
 // Rows of places that hold numbers, and agendas whose places may also bear a key.
+#![tactic(auto)]
+
 pub mod agenda;
 pub mod clearing;
 pub mod holder;

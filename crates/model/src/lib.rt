@@ -1,4 +1,6 @@
 // The definitions that the contracts of the store speak of (see specs/), and what is shown of them by examples.
+#![tactic(auto)]
+
 ghost use Rattle.std.specs.Prelude.{◌≡◌, length};
 ghost use Rattle.model.specs.Classes.{sizes};
 ghost use Rattle.model.specs.Worked.{Worked};

@@ -1,4 +1,6 @@
 // Pages: their size classes, what is known of each page, and the choice of pages.
+#![tactic(auto)]
+
 pub mod class;
 pub mod classes;
 pub mod entry;

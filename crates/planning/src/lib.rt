@@ -1,4 +1,6 @@
 // Any call on the graph, and the order in which its events come.
+#![tactic(auto)]
+
 ghost use Rattle.std.specs.Prelude.{MatchResult, OnOk};
 ghost use Rattle.histories.specs.Order.{Continues};
 ghost use Rattle.graph.specs.View.{graph_of, agenda_of};

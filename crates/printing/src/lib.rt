@@ -1,3 +1,5 @@
 // Calls and replies as bytes.
+#![tactic(auto)]
+
 mod digits;
 pub mod lines;

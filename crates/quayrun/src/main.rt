@@ -1,4 +1,6 @@
 // Performs a script: lines from standard input, replies to standard output, each chunk's before the next is read.
+#![tactic(auto)]
+
 use holders::registers::Registers;
 use interpreter::running::Interpreter;
 use ordered::agenda::OrderedAgenda;

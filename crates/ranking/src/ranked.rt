@@ -22,8 +22,8 @@ pub trait Ranked {
 // The place of the least item, the lowest of equals, or none of an empty row.
 // A row in which some items do not count is a row of options: none comes after every item.
 pub fn least<T: Ranked + Copy>(row: &[T]) -> Option<usize>
-    ensures value { result ≡ least_of before row.now }
-    ensures least { MatchOption result (length row.now ≡ 0) (λ b. Least before row.now b) }
+    ensures value { result ≡ least_of T.before row.now }
+    ensures least { MatchOption result (length row.now ≡ 0) (λ b. Least T.before row.now b) }
 {
     if row.len() == 0 {
         return None;

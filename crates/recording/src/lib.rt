@@ -1,4 +1,6 @@
 // A store as what the lines of a script are performed on.
+#![tactic(auto)]
+
 ghost use Rattle.std.specs.Prelude.{◌≡◌};
 ghost use Rattle.recording.specs.Performed.{Performed};
 

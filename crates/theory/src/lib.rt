@@ -1,4 +1,6 @@
 // The law of the record store: the contract of each function is a theorem.
+#![tactic(auto)]
+
 ghost use Rattle.model.specs.Law.{Law};
 ghost use Rattle.theory.specs.Measures.{Measures};
 ghost use Rattle.theory.specs.Joints.{Joined};

@@ -24,8 +24,8 @@ loop-i-preserved g c =
       | else-precedes w ↦ subst B (sym w.best-is) (IsFirstBest-keeps (ranks g) xs c.loop-i.i c.loop-i.best c.index-row-i.result c.index-row-best.result c.loop-i.invariant c.loop-i-test.true c.index-row-i.is c.index-row-best.is (sym c.precedes.ensures ∙ w.if-precedes.false))
     ]
 
-pub offset-bounds-row-best : goal.offset-bounds-row-best
-offset-bounds-row-best g c = omega (arith, c.loop-i.invariant.0)
+pub offset_bounds-row-best : goal.offset_bounds-row-best
+offset_bounds-row-best g c = omega (arith, c.loop-i.invariant.0)
 
 pub returns : goal.returns
 returns g c =
