@@ -71,7 +71,7 @@ impl LineBuffer {
 
     // Feeds a chunk: the lines that it ends go to the handler, in order.
     pub fn feed<H: LineHandler>(&mut self, chunk: &[u8], handler: &mut H) -> Result<(), H::Fault>
-        ensures lines { is_ok result ≡ true → FoldsTo handled handler.old (fed (holds self.old) chunk.now) handler.new }
+        ensures lines { is_ok result ≡ true → FoldsTo H.handled handler.old (fed (holds self.old) chunk.now) handler.new }
         ensures rest { is_ok result ≡ true → holds self.new ≡ kept (holds self.old) chunk.now }
         ensures whole { is_ok result ≡ true → (bs : List ℕ) → holds self.old ≡ rest_of bs → (lines_of (bs ++ chunk.now) ≡ lines_of bs ++ fed (holds self.old) chunk.now) × (holds self.new ≡ rest_of (bs ++ chunk.now)) }
     {
@@ -88,7 +88,7 @@ impl LineBuffer {
 
     // At the end of the input, what follows the last line feed is a line too, if it is not empty. Then the next input may begin.
     pub fn finish<H: LineHandler>(&mut self, handler: &mut H) -> Result<(), H::Fault>
-        ensures lines { is_ok result ≡ true → FoldsTo handled handler.old (if_some (holds self.old)) handler.new }
+        ensures lines { is_ok result ≡ true → FoldsTo H.handled handler.old (if_some (holds self.old)) handler.new }
         ensures rest { is_ok result ≡ true → holds self.new ≡ rest_of [] }
         ensures whole { is_ok result ≡ true → (bs : List ℕ) → holds self.old ≡ rest_of bs → all_lines bs ≡ lines_of bs ++ if_some (holds self.old) }
     {

@@ -10,8 +10,8 @@ loop-i-init g c = (
 
 pub loop-i-preserved : goal.loop-i-preserved
 loop-i-preserved g c = (
-  wipe_again 0 c.loop-i.i (g.A.Holder.row c.loop-i.agenda) (g.A.Holder.row c.clear-place.new.agenda) c.clear-place.ensures.number ∙ c.loop-i.invariant.0,
-  wipe_again None c.loop-i.i (g.A.Agenda.keys c.loop-i.agenda) (g.A.Agenda.keys c.clear-place.new.agenda) c.clear-place.ensures.key ∙ c.loop-i.invariant.1,
+  wipe_again 0 c.loop-i.i (g.A.Holder.row c.loop-i.agenda) (g.A.Holder.row c.clear_place.new.agenda) c.clear_place.ensures.number ∙ c.loop-i.invariant.0,
+  wipe_again None c.loop-i.i (g.A.Agenda.keys c.loop-i.agenda) (g.A.Agenda.keys c.clear_place.new.agenda) c.clear_place.ensures.key ∙ c.loop-i.invariant.1,
 )
 
 pub returns : goal.returns

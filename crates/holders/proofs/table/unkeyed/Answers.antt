@@ -5,12 +5,12 @@ use Rattle.holders.proofs.Firsts.{spare_at}
 use Rattle.holders.proofs.table.unkeyed.Goals as goal
 
 pub loop-i-preserved : goal.loop-i-preserved
-loop-i-preserved c = below_more (λ k. keyed c.args.keys.now k ≡ true) _ c.loop-i.invariant c.if-is-none.ensures
+loop-i-preserved c = below_more (λ k. keyed c.args.keys.now k ≡ true) _ c.loop-i.invariant c.if-is_none.ensures
 
-pub returns-then-is-none : goal.returns-then-is-none
-returns-then-is-none c = record {
+pub returns-then-is_none : goal.returns-then-is_none
+returns-then-is_none c = record {
   within = omega arith;
-  place = spare_at c.args.keys.now c.loop-i.i (omega arith) c.if-is-none.ensures c.loop-i.invariant;
+  place = spare_at c.args.keys.now c.loop-i.i (omega arith) c.if-is_none.ensures c.loop-i.invariant;
 }
 
 pub returns : goal.returns

@@ -15,8 +15,8 @@ returns-then-n-lt10 t c =
       capacity = c.put.ensures.capacity;
     }
 
-pub put-decimal-requires : goal.put-decimal-requires
-put-decimal-requires t c = (omega arith, omega (arith, length_step c.args.n (omega arith) (omega arith)))
+pub put_decimal-requires : goal.put_decimal-requires
+put_decimal-requires t c = (omega arith, omega (arith, length_step c.args.n (omega arith) (omega arith)))
 
 pub put-requires-2 : goal.put-requires-2
 put-requires-2 t c = omega (arith, length_step c.args.n (omega arith) (omega arith))
@@ -24,7 +24,7 @@ put-requires-2 t c = omega (arith, length_step c.args.n (omega arith) (omega ari
 pub returns : goal.returns
 returns t c =
     record {
-      items = behind _ _ _ _ _ _ c.put-decimal.ensures.items c.put-2.ensures.items (sym (decimal_step c.args.n (omega arith) (omega arith)));
+      items = behind _ _ _ _ _ _ c.put_decimal.ensures.items c.put-2.ensures.items (sym (decimal_step c.args.n (omega arith) (omega arith)));
       len = omega (arith, length_step c.args.n (omega arith) (omega arith));
       capacity = omega arith;
     }

@@ -5,7 +5,7 @@ use Rattle.printing.proofs.digits.put_numbers.Goals as goal
 
 pub loop-n-preserved : goal.loop-n-preserved
 loop-n-preserved c =
-    (number_more c.args.numbers.now _ (vec_items c.loop-n.out) c.loop-n.n-index c.loop-n.invariant.0 _ (omega arith) c.put-number.ensures.items, omega arith, omega arith)
+    (number_more c.args.numbers.now _ (vec_items c.loop-n.out) c.loop-n.n-index c.loop-n.invariant.0 _ (omega arith) c.put_number.ensures.items, omega arith, omega arith)
 
 pub returns : goal.returns
 returns c =

@@ -8,8 +8,8 @@ pub returns : goal.returns
 returns c =
     record {
       items =
-          behind_same (vec_items c.args.out.now) (reply_line c.letter-byte.result c.args.answer.now) (10 ∷ []) _ _ _ _
-          c.reserve.ensures.items c.put-reply.ensures.items c.put.ensures.items
-          (ap (λ (l : ℕ). reply_line l c.args.answer.now ++ 10 ∷ []) c.letter-byte.ensures);
+          behind_same (vec_items c.args.out.now) (reply_line c.letter_byte.result c.args.answer.now) (10 ∷ []) _ _ _ _
+          c.reserve.ensures.items c.put_reply.ensures.items c.put.ensures.items
+          (ap (λ (l : ℕ). reply_line l c.args.answer.now ++ 10 ∷ []) c.letter_byte.ensures);
       succeeds = λ _. refl;
     }

@@ -9,9 +9,9 @@ use Rattle.printing.proofs.lines.call_line.Goals as goal
 
 pub returns : goal.returns
 returns c =
-    let e : vec_items c.put-call-numbers.new.out ≡ call_line c.args.call.now =
-    behind_same [] (c.letter-byte.result ∷ []) (tabbed (numbers_of c.args.call.now)) _ _ _ _
-    c.in-ok-out.ensures.items c.put.ensures.items c.put-call-numbers.ensures.items
-    (ap (λ (l : ℕ). l ∷ tabbed (numbers_of c.args.call.now)) c.letter-byte.ensures)
+    let e : vec_items c.put_call_numbers.new.out ≡ call_line c.args.call.now =
+    behind_same [] (c.letter_byte.result ∷ []) (tabbed (numbers_of c.args.call.now)) _ _ _ _
+    c.in_ok-out.ensures.items c.put.ensures.items c.put_call_numbers.ensures.items
+    (ap (λ (l : ℕ). l ∷ tabbed (numbers_of c.args.call.now)) c.letter_byte.ensures)
     in
-    record { line = e; reads = ap meaning e ∙ reads_back c.args.call.now c.put-call-numbers.ensures.words }
+    record { line = e; reads = ap meaning e ∙ reads_back c.args.call.now c.put_call_numbers.ensures.words }

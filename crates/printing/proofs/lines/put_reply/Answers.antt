@@ -11,7 +11,7 @@ returns-in-Ok c =
     record {
       items =
           behind (vec_items c.args.out.now) (c.args.letter ∷ 9 ∷ 111 ∷ 107 ∷ []) (tabbed (answered c.in-Ok.answer)) _ _ _
-          c.put-all.ensures.items c.put-answer.ensures.items (sym (ap (reply_line c.args.letter) c.in-Ok.is));
+          c.put_all.ensures.items c.put_answer.ensures.items (sym (ap (reply_line c.args.letter) c.in-Ok.is));
       bound = omega arith;
       capacity = omega arith;
     }
@@ -20,9 +20,9 @@ pub returns-in-Err : goal.returns-in-Err
 returns-in-Err c =
     record {
       items =
-          behind (vec_items c.args.out.now) (c.refused-letter.result ∷ 9 ∷ 110 ∷ 111 ∷ []) (tabbed (c.number.result ∷ [])) _ _ _
-          c.put-all-in-Err.ensures.items c.put-numbers.ensures.items
-          (refused_as c.args.letter c.in-Err.refusal _ _ c.refused-letter.ensures c.number.ensures ∙ sym (ap (reply_line c.args.letter) c.in-Err.is));
+          behind (vec_items c.args.out.now) (c.refused_letter.result ∷ 9 ∷ 110 ∷ 111 ∷ []) (tabbed (c.number.result ∷ [])) _ _ _
+          c.put_all-in-Err.ensures.items c.put_numbers.ensures.items
+          (refused_as c.args.letter c.in-Err.refusal _ _ c.refused_letter.ensures c.number.ensures ∙ sym (ap (reply_line c.args.letter) c.in-Err.is));
       bound = omega arith;
       capacity = omega arith;
     }

@@ -12,16 +12,16 @@ use Rattle.holders.proofs.table.TableAgendaAgenda.first.Goals as goal
 best : (ks : List (Option Key)) (b : ℕ) → Least before_key ks b → IsFirstBest before_key ks (length ks) b
 best = best_from_least before_key bearing_ranks
 
-pub returns-then-is-some : goal.returns-then-is-some
-returns-then-is-some c =
+pub returns-then-is_some : goal.returns-then-is_some
+returns-then-is_some c =
     let ks = c.args.self.now.keys in
     let b = c.in-Some.b in
-    let e : b ≡ first_of ks = first_at_best ks b (best ks b c.in-Some.ensures.least) (sym c.if-is-some.ensures) in
+    let e : b ≡ first_of ks = first_at_best ks b (best ks b c.in-Some.ensures.least) (sym c.if-is_some.ensures) in
     record { value = e; least = first_stands ks b e }
 
-pub returns-else-is-some : goal.returns-else-is-some
-returns-else-is-some c =
+pub returns-else-is_some : goal.returns-else-is_some
+returns-else-is_some c =
     let ks = c.args.self.now.keys in
     let b = c.in-Some.b in
-    let e : 64 ≡ first_of ks = sym (first_none_best ks b (best ks b c.in-Some.ensures.least) (sym c.if-is-some.ensures) ∙ c.args.self.now.deep) in
+    let e : 64 ≡ first_of ks = sym (first_none_best ks b (best ks b c.in-Some.ensures.least) (sym c.if-is_some.ensures) ∙ c.args.self.now.deep) in
     record { value = e; least = first_stands ks 64 e }

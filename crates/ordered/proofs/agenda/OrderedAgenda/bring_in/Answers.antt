@@ -14,23 +14,23 @@ with_entry : (a : OrderedAgenda) (ks' : List (Option Key)) (p : ℕ) (k : Key) �
     → ks' ≡ set a.table.keys p (Some k) → Added ks' (set a.entries a.count p) a.count
 with_entry a = added a.table.keys a.entries a.count (sound a)
 
-pub offset-bounds-self-last : goal.offset-bounds-self-last
-offset-bounds-self-last c = omega (arith, fewer c.args.self.now c.args.p c.requires.within c.requires.unkeyed)
+pub offset_bounds-self-last : goal.offset_bounds-self-last
+offset_bounds-self-last c = omega (arith, fewer c.args.self.now c.args.p c.requires.within c.requires.unkeyed)
 
 pub bounds-self-last : goal.bounds-self-last
 bounds-self-last c = fewer c.args.self.now c.args.p c.requires.within c.requires.unkeyed
 
-pub overflow-add-self : goal.overflow-add-self
-overflow-add-self c = omega (arith, fewer c.args.self.now c.args.p c.requires.within c.requires.unkeyed)
+pub overflow_add-self : goal.overflow_add-self
+overflow_add-self c = omega (arith, fewer c.args.self.now c.args.p c.requires.within c.requires.unkeyed)
 
-pub overflow-add-last : goal.overflow-add-last
-overflow-add-last c = omega (arith, fewer c.args.self.now c.args.p c.requires.within c.requires.unkeyed)
+pub overflow_add-last : goal.overflow_add-last
+overflow_add-last c = omega (arith, fewer c.args.self.now c.args.p c.requires.within c.requires.unkeyed)
 
 pub rise-requires : goal.rise-requires
 rise-requires c =
     let a = c.args.self.now in
     let f : a.count < 64 = fewer a c.args.p c.requires.within c.requires.unkeyed in
-    let new = with_entry a c.key-place.new.self.keys c.args.p c.args.key c.requires.within c.requires.unkeyed c.key-place.ensures.changed in
+    let new = with_entry a c.key_place.new.self.keys c.args.p c.args.key c.requires.within c.requires.unkeyed c.key_place.ensures.changed in
     record {
       room = simp length-set (omega (arith, f, a.wide));
       entry = omega arith;
@@ -38,11 +38,15 @@ rise-requires c =
       near = new.near;
     }
 
-pub invariant-of-self : goal.invariant-of-self
-invariant-of-self c =
+pub invariant_of-self : goal.invariant_of-self
+invariant_of-self c =
     let a = c.args.self.now in
-    let new = with_entry a c.key-place.new.self.keys c.args.p c.args.key c.requires.within c.requires.unkeyed c.key-place.ensures.changed in
-    let m = c.rise.ensures.members in (
-      c.rise.auto.entries ∙ length-set a.entries a.count _ ∙ a.wide,
-      (new.tallied, (m.0, (m.1, (m.2, (c.rise.ensures.heaped, tt))))),
-    )
+    let new = with_entry a c.key_place.new.self.keys c.args.p c.args.key c.requires.within c.requires.unkeyed c.key_place.ensures.changed in
+    let m = c.rise.ensures.members in record {
+      wide = c.rise.auto.entries ∙ length-set a.entries a.count _ ∙ a.wide;
+      tallied = new.tallied;
+      inside = m.0;
+      once = m.1;
+      whole = m.2;
+      heaped = c.rise.ensures.heaped;
+    }

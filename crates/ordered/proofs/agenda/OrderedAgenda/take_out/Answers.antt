@@ -21,14 +21,14 @@ without a = removed a.table.keys a.entries a.count (sound a)
 pub position-i-requires : goal.position-i-requires
 position-i-requires c = omega (arith, few c.args.self.now, c.args.self.now.wide)
 
-pub offset-bounds-self-last : goal.offset-bounds-self-last
-offset-bounds-self-last c = omega (arith, few c.args.self.now)
+pub offset_bounds-self-last : goal.offset_bounds-self-last
+offset_bounds-self-last c = omega (arith, few c.args.self.now)
 
 pub bounds-self-last : goal.bounds-self-last
 bounds-self-last c = omega (arith, few c.args.self.now, here c.args.self.now c.args.p c.position-i.result c.requires c.position-i.ensures.within c.position-i.ensures.before)
 
-pub offset-bounds-self-i : goal.offset-bounds-self-i
-offset-bounds-self-i c = omega (arith, few c.args.self.now, c.position-i.ensures.within)
+pub offset_bounds-self-i : goal.offset_bounds-self-i
+offset_bounds-self-i c = omega (arith, few c.args.self.now, c.position-i.ensures.within)
 
 pub bounds-self-i : goal.bounds-self-i
 bounds-self-i c = omega (arith, few c.args.self.now, here c.args.self.now c.args.p c.position-i.result c.requires c.position-i.ensures.within c.position-i.ensures.before)
@@ -46,25 +46,33 @@ settle-requires c =
       near = left.near c.if-i-last.true;
     }
 
-pub invariant-of-self : goal.invariant-of-self
-invariant-of-self c =
+pub invariant_of-self : goal.invariant_of-self
+invariant_of-self c =
     let a = c.args.self.now in
     let i = c.position-i.result in
     let l : i < a.count = here a c.args.p i c.requires c.position-i.ensures.within c.position-i.ensures.before in
     let left = without a c.unkey.new.self.keys c.args.p i c.requires l (c.position-i.ensures.found l) c.unkey.ensures.changed in
-    let m = c.settle.ensures.members in (
-      c.settle.auto.entries ∙ length-set a.entries i _ ∙ a.wide,
-      (left.tallied, (m.0, (m.1, (m.2, (c.settle.ensures.heaped, tt))))),
-    )
+    let m = c.settle.ensures.members in record {
+      wide = c.settle.auto.entries ∙ length-set a.entries i _ ∙ a.wide;
+      tallied = left.tallied;
+      inside = m.0;
+      once = m.1;
+      whole = m.2;
+      heaped = c.settle.ensures.heaped;
+    }
 
-pub invariant-of-self-else-i-last : goal.invariant-of-self-else-i-last
-invariant-of-self-else-i-last c =
+pub invariant_of-self-else-i-last : goal.invariant_of-self-else-i-last
+invariant_of-self-else-i-last c =
     let a = c.args.self.now in
     let i = c.position-i.result in
     let l : i < a.count = here a c.args.p i c.requires c.position-i.ensures.within c.position-i.ensures.before in
     let left = without a c.unkey.new.self.keys c.args.p i c.requires l (c.position-i.ensures.found l) c.unkey.ensures.changed in
     let m = left.members in
-    let e : i ≡ a.count - 1 = omega (arith, c.if-i-last.false) in (
-      length-set a.entries i _ ∙ a.wide,
-      (left.tallied, (m.0, (m.1, (m.2, (left.heaped e, tt))))),
-    )
+    let e : i ≡ a.count - 1 = omega (arith, c.if-i-last.false) in record {
+      wide = length-set a.entries i _ ∙ a.wide;
+      tallied = left.tallied;
+      inside = m.0;
+      once = m.1;
+      whole = m.2;
+      heaped = left.heaped e;
+    }

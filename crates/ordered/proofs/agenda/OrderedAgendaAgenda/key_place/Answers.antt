@@ -4,15 +4,15 @@ use Rattle.ordered.specs.declared.agenda.OrderedAgenda.{OrderedAgenda}
 use Rattle.ordered.proofs.agenda.OrderedAgendaAgenda.key_place.Goals as goal
 use Rattle.ordered.proofs.agenda.OrderedAgendaAgenda.key_place.Goals.{then-is-some, else-is-some}
 
-pub returns-after-is-some : goal.returns-after-is-some
-returns-after-is-some c =
-    let b = c.bring-in.ensures in
+pub returns-after-is_some : goal.returns-after-is_some
+returns-after-is_some c =
+    let b = c.bring_in.ensures in
     let k = Some c.args.key in
-    elim c.if-is-some.branch [
+    elim c.if-is_some.branch [
       | then-is-some w ↦ record {
-        same = b.same ∙ ap (λ (a : OrderedAgenda). a.table.numbers) w.self-is ∙ w.take-out.ensures.same;
+        same = b.same ∙ ap (λ (a : OrderedAgenda). a.table.numbers) w.self-is ∙ w.take_out.ensures.same;
         changed = b.changed ∙ ap (λ (a : OrderedAgenda). set a.table.keys c.args.i k) w.self-is
-            ∙ ap (λ v. set v c.args.i k) w.take-out.ensures.changed ∙ set-set c.args.self.now.table.keys c.args.i None k;
+            ∙ ap (λ v. set v c.args.i k) w.take_out.ensures.changed ∙ set-set c.args.self.now.table.keys c.args.i None k;
       }
       | else-is-some w ↦ record {
         same = b.same ∙ ap (λ (a : OrderedAgenda). a.table.numbers) w.self-is;

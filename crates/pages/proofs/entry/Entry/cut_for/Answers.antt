@@ -25,14 +25,20 @@ past_first false k ne = refl
 some_blocks : (size : ℕ) → 4 ≤ size → size ≤ 256 → 1 ≤ 256 / size
 some_blocks size a b = le-div 1 256 size (omega arith) (omega arith)
 
-pub invariant-of-result : goal.invariant-of-result
-invariant-of-result c =
+pub invariant_of-result : goal.invariant_of-result
+invariant_of-result c =
     let size : ℕ = c.args.size in
     let l = c.requires.0 in
     let some = some_blocks size c.requires.0 c.requires.1 in
     let two : 2 ^ 1 ≤ 2 ^ (256 / size) = pow_mono some in
     let few : 256 / size ≤ 64 = div-le_of_le-mul size (omega arith) in
-    (omega arith, (few, (first c.args.marked, ((λ z. absurd (omega arith)), ((λ h. omega arith), tt)))))
+    record {
+      below = omega arith;
+      few = few;
+      within = first c.args.marked;
+      blank = (λ z. absurd (omega arith));
+      inhabited = (λ h. omega arith);
+    }
 
 pub returns : goal.returns
 returns c =

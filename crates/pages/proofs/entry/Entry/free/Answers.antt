@@ -3,8 +3,8 @@ use lib.Count.{ones, ones-le}
 use Rattle.pages.proofs.Views.{slots_used, slots_free}
 use Rattle.pages.proofs.entry.Entry.free.Goals as goal
 
-pub overflow-sub-result : goal.overflow-sub-result
-overflow-sub-result c =
+pub overflow_sub-result : goal.overflow_sub-result
+overflow_sub-result c =
     let e = c.args.self.now in
     let u = c.used.ensures false 0 [] ∙ slots_used e.size false e.occupied 0 [] e.below in
     let l = ones-le (256 / e.size) e.occupied e.below in

@@ -16,6 +16,6 @@ returns-then-counted c =
           let p : Page = page_view e.size e.closed e.occupied e.marked ws in
           c.free.ensures.free e.closed e.marked ws
           ∙ sym (ap (λ (b : Bool). cond b (free p) 0)
-          (and_from (in_class c.args.size p) c.args.counted (sym (c.if-is-open.ensures e.occupied e.marked ws)) c.if-counted.true));
+          (and_from (in_class c.args.size p) c.args.counted (sym (c.if-is_open.ensures e.occupied e.marked ws)) c.if-counted.true));
       few = omega arith;
     }

@@ -4,11 +4,11 @@ use Rattle.model.specs.Pages.{in_class}
 use Rattle.pages.specs.View.{page_view}
 use Rattle.pages.proofs.entry.Entry.is_source.Goals as goal
 
-pub returns-then-is-open : goal.returns-then-is-open
-returns-then-is-open c o m ws =
-    sym (ap (λ (b : Bool). b && not c.args.barred) (sym (c.if-is-open.ensures o m ws)))
+pub returns-then-is_open : goal.returns-then-is_open
+returns-then-is_open c o m ws =
+    sym (ap (λ (b : Bool). b && not c.args.barred) (sym (c.if-is_open.ensures o m ws)))
 
-pub returns-else-is-open : goal.returns-else-is-open
-returns-else-is-open c o m ws =
+pub returns-else-is_open : goal.returns-else-is_open
+returns-else-is_open c o m ws =
     let e = c.args.self.now in
-    c.if-is-open.false ∙ sym (and_left (in_class c.args.size (page_view e.size e.closed o m ws)) (not c.args.barred) (sym (c.if-is-open.ensures o m ws)))
+    c.if-is_open.false ∙ sym (and_left (in_class c.args.size (page_view e.size e.closed o m ws)) (not c.args.barred) (sym (c.if-is_open.ensures o m ws)))

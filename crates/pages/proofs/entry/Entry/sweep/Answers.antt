@@ -11,21 +11,18 @@ use Rattle.pages.proofs.entry.Entry.sweep.Goals as goal
 no_mark : (o s : ℕ) → has 0 s ≡ true → has o s ≡ true
 no_mark o s on = absurd (both_ways (has 0 s) (has_none s) on)
 
-pub invariant-of-self-else-self-eq0 : goal.invariant-of-self-else-self-eq0
-invariant-of-self-else-self-eq0 c =
+pub invariant_of-self-else-self-eq0 : goal.invariant_of-self-else-self-eq0
+invariant_of-self-else-self-eq0 c =
     let e = c.args.self.now in
     let l = and_le_l e.occupied e.marked in
     let b = e.below in
-    let some = c.if-self-eq0.false in (
-      omega arith,
-      (
-        e.few,
-        (
-          no_mark (bit_and e.occupied e.marked),
-          (λ z. let o = (e.blank z).1 in (refl, (let n : bit_and e.occupied e.marked ≡ 0 = omega arith in n), refl), ((λ l. omega (arith, some)), tt)),
-        ),
-      ),
-    )
+    let some = c.if-self-eq0.false in record {
+      below = omega arith;
+      few = e.few;
+      within = no_mark (bit_and e.occupied e.marked);
+      blank = λ z. let o = (e.blank z).1 in (refl, (let n : bit_and e.occupied e.marked ≡ 0 = omega arith in n), refl);
+      inhabited = (λ l. omega (arith, some));
+    }
 
 pub returns-then-self-eq0 : goal.returns-then-self-eq0
 returns-then-self-eq0 c =

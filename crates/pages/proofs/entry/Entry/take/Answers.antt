@@ -21,38 +21,44 @@ module _ (e : Entry) (s o : ℕ) (low : s < 256 / e.size) (is : o ≡ with_flag_
 small : (e : Entry) (s : ℕ) → s < 256 / e.size → s < 64
 small e s h = let f = e.few in omega arith
 
-pub invariant-of-self : goal.invariant-of-self
-invariant-of-self c =
+pub invariant_of-self : goal.invariant_of-self
+invariant_of-self c =
     let e = c.args.self.now in
     let s : ℕ = c.args.s in
-    let o : ℕ = c.with-flag-self.result in
-    let is = c.with-flag-self.ensures.0 (small e s c.requires.0) in
-    let m = c.with-flag-self-then-marked.ensures.0 (small e s c.requires.0) in
+    let o : ℕ = c.with_flag-self.result in
+    let is = c.with_flag-self.ensures.0 (small e s c.requires.0) in
+    let m = c.with_flag-self-then-marked.ensures.0 (small e s c.requires.0) in
     let P : ℕ → Type 0 = λ x. Within x o in
-    let Q : ℕ → Type 0 = λ x. Within (with_flag_set e.marked s) x in (
-      more_fit e s o c.requires.0 is,
-      (e.few, (subst P (sym m) (subst Q (sym is) (within_both e.marked e.occupied s e.within)), (cut_yet e s o c.requires.0 is _, ((λ l. some_flag o s (on e s o c.requires.0 is)), tt)))),
-    )
+    let Q : ℕ → Type 0 = λ x. Within (with_flag_set e.marked s) x in record {
+      below = more_fit e s o c.requires.0 is;
+      few = e.few;
+      within = subst P (sym m) (subst Q (sym is) (within_both e.marked e.occupied s e.within));
+      blank = cut_yet e s o c.requires.0 is _;
+      inhabited = (λ l. some_flag o s (on e s o c.requires.0 is));
+    }
 
-pub invariant-of-self-else-marked : goal.invariant-of-self-else-marked
-invariant-of-self-else-marked c =
+pub invariant_of-self-else-marked : goal.invariant_of-self-else-marked
+invariant_of-self-else-marked c =
     let e = c.args.self.now in
     let s : ℕ = c.args.s in
-    let o : ℕ = c.with-flag-self.result in
-    let is = c.with-flag-self.ensures.0 (small e s c.requires.0) in
-    let Q : ℕ → Type 0 = λ x. Within e.marked x in (
-      more_fit e s o c.requires.0 is,
-      (e.few, (subst Q (sym is) (within_with e.marked e.occupied s e.within), (cut_yet e s o c.requires.0 is _, ((λ l. some_flag o s (on e s o c.requires.0 is)), tt)))),
-    )
+    let o : ℕ = c.with_flag-self.result in
+    let is = c.with_flag-self.ensures.0 (small e s c.requires.0) in
+    let Q : ℕ → Type 0 = λ x. Within e.marked x in record {
+      below = more_fit e s o c.requires.0 is;
+      few = e.few;
+      within = subst Q (sym is) (within_with e.marked e.occupied s e.within);
+      blank = cut_yet e s o c.requires.0 is _;
+      inhabited = (λ l. some_flag o s (on e s o c.requires.0 is));
+    }
 
 pub returns-then-marked : goal.returns-then-marked
 returns-then-marked c =
     let e = c.args.self.now in
     let s : ℕ = c.args.s in
-    let o : ℕ = c.with-flag-self.result in
-    let n : ℕ = c.with-flag-self-then-marked.result in
-    let is = c.with-flag-self.ensures.0 (small e s c.requires.0) in
-    let m = c.with-flag-self-then-marked.ensures.0 (small e s c.requires.0) in
+    let o : ℕ = c.with_flag-self.result in
+    let n : ℕ = c.with_flag-self-then-marked.result in
+    let is = c.with_flag-self.ensures.0 (small e s c.requires.0) in
+    let m = c.with_flag-self-then-marked.ensures.0 (small e s c.requires.0) in
     record {
       view = λ ws.
           take_page e.size e.closed e.occupied e.marked o n ws s c.args.marked c.requires.0 (on e s o c.requires.0 is)
@@ -66,8 +72,8 @@ pub returns-else-marked : goal.returns-else-marked
 returns-else-marked c =
     let e = c.args.self.now in
     let s : ℕ = c.args.s in
-    let o : ℕ = c.with-flag-self.result in
-    let is = c.with-flag-self.ensures.0 (small e s c.requires.0) in
+    let o : ℕ = c.with_flag-self.result in
+    let is = c.with_flag-self.ensures.0 (small e s c.requires.0) in
     record {
       view = λ ws.
           take_page e.size e.closed e.occupied e.marked o e.marked ws s c.args.marked c.requires.0 (on e s o c.requires.0 is)

@@ -45,7 +45,7 @@ returns-in-Some c =
     let es = c.args.self.now.entries in
     let is = c.fitting-size.ensures.size in
     let g : ℕ = c.in-Some.page in
-    let T : ℕ → Type 0 = λ z. Taken es c.take-slot.new.self.entries g c.take-slot.result z (leb c.args.mark-from g) in
+    let T : ℕ → Type 0 = λ z. Taken es c.take-slot.new.self.entries g c.take-slot.result z (leb c.args.mark_from g) in
     record {
       block = (
         subst T is c.take-slot.ensures,

@@ -26,15 +26,15 @@ close-requires c =
     let some = c.requires in
     omega arith
 
-pub returns-then-used-free-in-class : goal.returns-then-used-free-in-class
-returns-then-used-free-in-class c =
+pub returns-then-used-free_in_class : goal.returns-then-used-free_in_class
+returns-then-used-free_in_class c =
     let es = c.args.self.now.entries in
     let g : ℕ = c.in-Some.page in
     let m = c.close.ensures in
     record {
       source = λ wss full.
-          let f = c.free-in-class.ensures wss full in
-          let t = c.if-used-free-in-class.true in
+          let f = c.free_in_class.ensures wss full in
+          let t = c.if-used-free_in_class.true in
           sym (ap (λ (b : Bool). cond b (Some g) None) (le-leb c.in-Some.used (free_of_class c.args.size g 0 (pages_of es wss)) (omega arith)))
           ∙ ap (movable c.args.size (pages_of es wss)) (c.in-Some.ensures.page wss full);
       change = changed (λ p. with_closed p true) es g c.index-self-page.result c.close.new.self c.in-Some.ensures.low m.view

@@ -8,8 +8,8 @@ use Rattle.pages.proofs.Sizes.{no_class, a_class, size_between}
 use Rattle.pages.proofs.Choices.{sourced}
 use Rattle.pages.proofs.table.Table.close_source.Goals as goal
 
-pub close-least-requires : goal.close-least-requires
-close-least-requires c =
+pub close_least-requires : goal.close_least-requires
+close_least-requires c =
     let k = a_class c.args.class c.in-Some.class c.in-Some.ensures.class in
     let b = (size_between c.args.class (ltb-true c.args.class 20 k.0)).0 in
     let e = k.1 in
@@ -30,11 +30,11 @@ returns-in-Some c =
     let k = a_class c.args.class c.in-Some.class c.in-Some.ensures.class in
     record {
       source = λ wss full.
-          c.close-least.ensures.source wss full
+          c.close_least.ensures.source wss full
           ∙ ap (λ (z : ℕ). movable z (pages_of es wss) (source_page (pages_of es wss) z c.args.targets)) k.1
           ∙ sym (ap (λ (b : Bool). cond b (movable (get_or sizes c.args.class 0) (pages_of es wss) (source_page (pages_of es wss) (get_or sizes c.args.class 0) c.args.targets)) None) k.0);
-      change = c.close-least.ensures.change;
+      change = c.close_least.ensures.change;
       chosen = λ wss full.
-          let P : ℕ → Type 0 = λ z. Sourced (pages_of es wss) z c.args.targets c.close-least.result in
-          subst P k.1 (sourced (pages_of es wss) c.in-Some.class.size c.args.targets c.close-least.result (c.close-least.ensures.source wss full));
+          let P : ℕ → Type 0 = λ z. Sourced (pages_of es wss) z c.args.targets c.close_least.result in
+          subst P k.1 (sourced (pages_of es wss) c.in-Some.class.size c.args.targets c.close_least.result (c.close_least.ensures.source wss full));
     }

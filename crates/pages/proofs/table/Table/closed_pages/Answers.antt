@@ -8,22 +8,22 @@ one_most : (b : Bool) → cond b 1 0 ≤ 1
 one_most true = omega arith
 one_most false = omega arith
 
-pub overflow-add-n : goal.overflow-add-n
-overflow-add-n c =
+pub overflow_add-n : goal.overflow_add-n
+overflow_add-n c =
     let i = c.loop-page.invariant.1 in
     let l = c.loop-page-test.true in
-    let e = c.one-if-n.ensures in
-    let m = one_most (get_or c.args.self.now.entries c.loop-page.-page c.entry-item.result).closed in
+    let e = c.one_if-n.ensures in
+    let m = one_most (get_or c.args.self.now.entries c.loop-page._page c.entry-item.result).closed in
     omega arith
 
 pub loop-page-preserved : goal.loop-page-preserved
 loop-page-preserved c =
     let es = c.args.self.now.entries in
-    let g : ℕ = c.loop-page.-page in
+    let g : ℕ = c.loop-page._page in
     let l = c.loop-page-test.true in
     let j = c.loop-page.invariant.1 in
-    let o = c.one-if-n.ensures in
-    let m = one_most (get_or c.args.self.now.entries c.loop-page.-page c.entry-item.result).closed in (
+    let o = c.one_if-n.ensures in
+    let m = one_most (get_or c.args.self.now.entries c.loop-page._page c.entry-item.result).closed in (
       λ wss full.
           let k = pages_long es wss full in
           let s = pages_step (λ p. p.closed) (pages_of es wss) g (omega arith) in
@@ -39,6 +39,6 @@ returns c wss full =
     let es = c.args.self.now.entries in
     let k = pages_long es wss full in
     let l = c.loop-page-test.false in
-    let e = pages_end (λ p. p.closed) (pages_of es wss) c.loop-page.-page (omega arith) in
+    let e = pages_end (λ p. p.closed) (pages_of es wss) c.loop-page._page (omega arith) in
     let i = c.loop-page.invariant.0 wss full in
     omega arith

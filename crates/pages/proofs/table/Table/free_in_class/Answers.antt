@@ -4,10 +4,10 @@ use Rattle.pages.specs.Entries.{pages_of}
 use Rattle.pages.proofs.Pages.{pages_long, page_item, free_step, free_end}
 use Rattle.pages.proofs.table.Table.free_in_class.Goals as goal
 
-pub overflow-add-n : goal.overflow-add-n
-overflow-add-n c =
+pub overflow_add-n : goal.overflow_add-n
+overflow_add-n c =
     let i = c.loop-page.invariant.1 in
-    let f = c.free-if-n.ensures.few in
+    let f = c.free_if-n.ensures.few in
     let l = c.loop-page-test.true in omega arith
 
 pub loop-page-preserved : goal.loop-page-preserved
@@ -16,12 +16,12 @@ loop-page-preserved c =
     let g : ℕ = c.loop-page.page in
     let l = c.loop-page-test.true in
     let j = c.loop-page.invariant.1 in
-    let f = c.free-if-n.ensures.few in (
+    let f = c.free_if-n.ensures.few in (
       λ wss full.
           let k = pages_long es wss full in
           let s = free_step c.args.size c.args.but (pages_of es wss) g (omega arith) in
-          let e : c.free-if-n.result ≡ cond (in_class c.args.size (page_at (pages_of es wss) g) && not (eqb g c.args.but)) (free (page_at (pages_of es wss) g)) 0 =
-          c.free-if-n.ensures.free (get_or wss g [])
+          let e : c.free_if-n.result ≡ cond (in_class c.args.size (page_at (pages_of es wss) g) && not (eqb g c.args.but)) (free (page_at (pages_of es wss) g)) 0 =
+          c.free_if-n.ensures.free (get_or wss g [])
           ∙ ap (λ (p : Page). cond (in_class c.args.size p && not (eqb g c.args.but)) (free p) 0) (sym (page_item es wss full g c.entry-item.result l)) in
           let i = c.loop-page.invariant.0 wss full in
           omega arith,

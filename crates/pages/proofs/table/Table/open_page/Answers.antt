@@ -13,8 +13,8 @@ at_page es wss full g size x b l is =
     let t = full.1 in
     ap (takes_test size) (page_is es wss g uncut x (omega arith) (omega arith)) ∙ sym (is (get_or wss g []))
 
-pub returns-then-has-room : goal.returns-then-has-room
-returns-then-has-room c =
+pub returns-then-has_room : goal.returns-then-has_room
+returns-then-has_room c =
     let es = c.args.self.now.entries in
     let g : ℕ = c.loop-page.page in
     record {
@@ -25,7 +25,7 @@ returns-then-has-room c =
           (sym (c.loop-page.invariant wss full)
           ∙ first_step (takes_test c.args.size) (pages_of es wss) g (omega arith)
           ∙ ap (λ (b : Bool). cond b (Some g) (first_page (takes_test c.args.size) (g + 1) (drop (g + 1) (pages_of es wss))))
-          (at_page es wss full g c.args.size c.entry-item.result true c.loop-page-test.true c.if-has-room.ensures));
+          (at_page es wss full g c.args.size c.entry-item.result true c.loop-page-test.true c.if-has_room.ensures));
       low = c.loop-page-test.true;
     }
 
@@ -36,7 +36,7 @@ loop-page-preserved c wss full =
     let n = pages_long es wss full in
     let l = c.loop-page-test.true in
     sym (ap (λ (b : Bool). cond b (Some g) (first_page (takes_test c.args.size) (g + 1) (drop (g + 1) (pages_of es wss))))
-    (at_page es wss full g c.args.size c.entry-item.result false c.loop-page-test.true c.if-has-room.ensures))
+    (at_page es wss full g c.args.size c.entry-item.result false c.loop-page-test.true c.if-has_room.ensures))
     ∙ sym (first_step (takes_test c.args.size) (pages_of es wss) g (omega arith))
     ∙ c.loop-page.invariant wss full
 

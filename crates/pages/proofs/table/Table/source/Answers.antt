@@ -27,14 +27,14 @@ loop-page-preserved c =
     let long = c.loop-page.invariant.0 in
     let l = c.loop-page-test.true in (
       length-set row g c.candidate.result ∙ long,
-      low_set row g c.used.result c.is-source-counts.result c.candidate.result c.loop-page.invariant.1 l c.candidate.ensures,
+      low_set row g c.used.result c.is_source-counts.result c.candidate.result c.loop-page.invariant.1 l c.candidate.ensures,
       λ wss full k h.
           let e : Entry = get_or es g c.entry-item.result in
           let ws : List ℕ = get_or wss g [] in
           let at = page_item es wss full g c.entry-item.result l in
           let P : Page = page_at (pages_of es wss) g in
-          let counts : c.is-source-counts.result ≡ test c.args.size c.args.targets g P =
-          c.is-source-counts.ensures e.occupied e.marked ws
+          let counts : c.is_source-counts.result ≡ test c.args.size c.args.targets g P =
+          c.is_source-counts.ensures e.occupied e.marked ws
           ∙ ap (λ (b : Bool). in_class c.args.size (entry_view e ws) && not b) c.flag.ensures
           ∙ sym (ap (test c.args.size c.args.targets g) at) in
           let figure : c.used.result ≡ used P = c.used.ensures e.closed e.marked ws ∙ sym (ap used at) in
@@ -56,7 +56,7 @@ returns c =
     record {
       page = λ wss full.
           let n = pages_long es wss full in
-          c.least-page.ensures
+          c.least_page.ensures
           ∙ least_row (test c.args.size c.args.targets) used (pages_of es wss) c.loop-page.row (omega arith) (λ k h. c.loop-page.invariant.2 wss full k (omega arith));
-      low = low_pair c.loop-page.row c.least-page.result c.loop-page.invariant.1 c.least-page.ensures;
+      low = low_pair c.loop-page.row c.least_page.result c.loop-page.invariant.1 c.least_page.ensures;
     }

@@ -8,8 +8,8 @@ use Rattle.pages.proofs.Pages.{entry_read}
 use Rattle.pages.proofs.Taking.{cut_sizes, open_size, open_room, slot_low, slot_off, taken_cut, taken_open}
 use Rattle.pages.proofs.table.Table.take.Goals as goal
 
-pub cut-for-requires : goal.cut-for-requires
-cut-for-requires c =
+pub cut_for-requires : goal.cut_for-requires
+cut_for-requires c =
     let es = c.args.self.now.entries in
     let l = c.requires.page in
     let n : length es ≡ 64 = omega arith in
@@ -24,8 +24,8 @@ returns-then-self-page-eq0 c =
     let q = entry_read es c.args.page c.index-self-page.result (omega arith) in
     let z = sym (ap (λ (e : Entry). e.size) q) ∙ c.if-self-page-eq0.true in
     let b = cut_sizes (entry_at es c.args.page) c.args.size (c.requires.room n) z in
-    taken_cut es c.args.page c.cut-for.result c.requires.page (omega arith) c.args.size c.args.marked z b.0 b.1
-    c.cut-for.ensures.view c.cut-for.ensures.one c.cut-for.ensures.size
+    taken_cut es c.args.page c.cut_for.result c.requires.page (omega arith) c.args.size c.args.marked z b.0 b.1
+    c.cut_for.ensures.view c.cut_for.ensures.one c.cut_for.ensures.size
 
 pub take-requires : goal.take-requires
 take-requires c =

@@ -23,13 +23,13 @@ loop-page-preserved c =
     let long = c.loop-page.invariant.0 in
     let l = c.loop-page-test.true in (
       length-set row g c.candidate.result ∙ long,
-      low_set row g c.free.result c.has-room.result c.candidate.result c.loop-page.invariant.1 l c.candidate.ensures,
+      low_set row g c.free.result c.has_room.result c.candidate.result c.loop-page.invariant.1 l c.candidate.ensures,
       λ wss full k h.
           let e : Entry = get_or es g c.entry-item.result in
           let ws : List ℕ = get_or wss g [] in
           let at = page_item es wss full g c.entry-item.result l in
           let P : Page = page_at (pages_of es wss) g in
-          let counts : c.has-room.result ≡ test c.args.size g P = c.has-room.ensures ws ∙ sym (ap (test c.args.size g) at) in
+          let counts : c.has_room.result ≡ test c.args.size g P = c.has_room.ensures ws ∙ sym (ap (test c.args.size g) at) in
           let figure : c.free.result ≡ free P = c.free.ensures.free e.closed e.marked ws ∙ sym (ap free at) in
           elim (cases_eq k g) [
             | inl q ↦
@@ -49,7 +49,7 @@ returns c =
     record {
       page = λ wss full.
           let n = pages_long es wss full in
-          c.least-page.ensures
+          c.least_page.ensures
           ∙ least_row (test c.args.size) free (pages_of es wss) c.loop-page.row (omega arith) (λ k h. c.loop-page.invariant.2 wss full k (omega arith));
-      low = low_pair c.loop-page.row c.least-page.result c.loop-page.invariant.1 c.least-page.ensures;
+      low = low_pair c.loop-page.row c.least_page.result c.loop-page.invariant.1 c.least_page.ensures;
     }
