@@ -19,7 +19,7 @@ pub struct Interpreter<R> {
 impl<R: Recorder> Interpreter<R> {
     // Before any input; nothing is written.
     pub fn new(heap: Global, recorder: R) -> Interpreter<R>
-        ensures stands { Stands took recorder [] [] result.session.recorder (holds result.buffer) }
+        ensures stands { Stands R.took recorder [] [] result.session.recorder (holds result.buffer) }
         ensures output { result.session.output.items ≡ [] }
     {
         Interpreter {
@@ -33,14 +33,14 @@ impl<R: Recorder> Interpreter<R> {
 
     // Performs each line that a chunk ends. Whatever input came before in whatever chunks, what is then written is what the lines of all of it have written.
     pub fn feed(&mut self, chunk: &[u8]) -> Result<(), AllocError>
-        ensures { is_ok result ≡ true → (s : R) (bs written : List ℕ) → Stands took s bs written self.old.session.recorder (holds self.old.buffer) → (out : List ℕ) × Stands took s (bs ++ chunk.now) (written ++ out) self.new.session.recorder (holds self.new.buffer) × (self.new.session.output.items ≡ self.old.session.output.items ++ out) }
+        ensures { is_ok result ≡ true → (s : R) (bs written : List ℕ) → Stands R.took s bs written self.old.session.recorder (holds self.old.buffer) → (out : List ℕ) × Stands R.took s (bs ++ chunk.now) (written ++ out) self.new.session.recorder (holds self.new.buffer) × (self.new.session.output.items ≡ self.old.session.output.items ++ out) }
     {
         self.buffer.feed(chunk, &mut self.session)
     }
 
     // Performs the last line of the input, if no line feed ends it. Then the next input may begin.
     pub fn finish(&mut self) -> Result<(), AllocError>
-        ensures lines { is_ok result ≡ true → (s : R) (bs written : List ℕ) → Stands took s bs written self.old.session.recorder (holds self.old.buffer) → (out : List ℕ) × Runs took s (all_lines bs) (written ++ out) self.new.session.recorder × (self.new.session.output.items ≡ self.old.session.output.items ++ out) }
+        ensures lines { is_ok result ≡ true → (s : R) (bs written : List ℕ) → Stands R.took s bs written self.old.session.recorder (holds self.old.buffer) → (out : List ℕ) × Runs R.took s (all_lines bs) (written ++ out) self.new.session.recorder × (self.new.session.output.items ≡ self.old.session.output.items ++ out) }
         ensures rest { is_ok result ≡ true → holds self.new.buffer ≡ rest_of [] }
     {
         self.buffer.finish(&mut self.session)

@@ -1,7 +1,7 @@
 -- Moving: a unit copies one block, or chooses a page, and the graph is still stood for.
 use Rattle.std.proofs.Common.{◌≡◌, ℕ, suc, ◌<◌, Bool, true, false, cond, not, ◌&&◌, ltb, leb, ◌≢◌, ◌⊎◌, List, length, get_or, Some, None, Option, sym, refl, ap, ◌∙◌, subst, inl, inr, ⊎_elim, arith}
 use Rattle.std.proofs.lemmas.List.{get_or-set_same}
-use Rattle.std.proofs.lemmas.Bool.{and_parts, both_ways, cases_eq, eqb-true, ltb-true, not_true, or_right}
+use Rattle.std.proofs.lemmas.Bool.{and_parts, both_ways, cases_eq, eqb-true, ltb-true, not-true, or_right}
 use Rattle.model.specs.Classes.{sizes}
 use Rattle.model.specs.Maps.{has, with_flag_set}
 use Rattle.model.specs.Pages.{Block, Page, block_at, forward_of, free, in_class, lowest_free, number, occupied, page_at, page_of, put_block, uncut, with_closed}
@@ -74,7 +74,7 @@ module _ {ps : List Page} (o : PagesOk ps) {targets : ℕ} (am : Aims ps targets
   apart_pages : t ≢ g
   apart_pages e =
       let a = and_parts _ _ (and_parts _ _ tp).0 in
-      both_ways (page_at ps g).closed (subst (λ j. (page_at ps j).closed ≡ false) e (not_true _ a.1)) sr.shut
+      both_ways (page_at ps g).closed (subst (λ j. (page_at ps j).closed ≡ false) e (not-true _ a.1)) sr.shut
 
   alone : (m : ℕ) (x : Block) → HasBlock (block_at ps) m → block_at ps m ≡ Some x → x.forward ≡ from → m ≡ from
   alone m x i e f =
@@ -225,7 +225,7 @@ module _ {T : ℕ → Type 0} {ns : List Record} {xs ys : List ℕ} where
               record {
                 cut = λ z. class_sized k kl (sym (eqb-true _ _ (and_parts _ _ (and_parts _ _ l.passes).0).0) ∙ sym (ap (λ (p : Page). p.size) (get_or-set_same h.pages x.1 (with_closed (page_at h.pages x.1) true) uncut l.within)) ∙ z);
                 shut = ap (λ (p : Page). p.closed) (get_or-set_same h.pages x.1 _ uncut l.within);
-                apart = not_true _ (and_parts _ _ l.passes).1;
+                apart = not-true _ (and_parts _ _ l.passes).1;
               },
             );
           }

@@ -1,7 +1,7 @@
 -- The units of moving: each lowers what is left by both bounds.
 use Rattle.std.proofs.Common.{◌≡◌, ℕ, suc, ◌+◌, ◌-◌, ◌<◌, ◌≤◌, Bool, true, false, cond, not, ◌&&◌, ◌||◌, eqb, ltb, leb, ◌≢◌, List, get_or, Some, None, Option, sym, refl, ap, ◌∙◌, subst, ⊎_elim, arith}
 use Rattle.std.proofs.lemmas.List.{length-set}
-use Rattle.std.proofs.lemmas.Bool.{cond_both, cases_lt, cases_eq, ltb-true, eqb-true, eq-eqb, ne_eqb, and_parts, not_true, or_right, true≢false}
+use Rattle.std.proofs.lemmas.Bool.{cond_both, cases_lt, cases_eq, ltb-true, eqb-true, eq-eqb, ne_eqb, and_parts, not-true, or_right, true≢false}
 use Rattle.model.specs.Classes.{sizes}
 use Rattle.model.specs.Maps.{has, with_flag_set}
 use Rattle.model.specs.Pages.{Block, Page, with_closed, number, page_of, page_at, block_at, put_block, current, forward_of, occupied, free, lowest_free, in_class}
@@ -75,7 +75,7 @@ module _ (n : ℕ) (h : Heap) (k targets : ℕ) (o : PagesOk h.pages) (e : Empty
               within = omega (arith, c.within, length-set ps g q);
               size = ap (λ (p : Page). p.size) now ∙ eqb-true (page_at ps g).size (get_or sizes k 0) (and_parts _ _ t.0).0;
               closed = ap (λ (p : Page). p.closed) now;
-              apart = not_true (has targets g) t.1;
+              apart = not-true (has targets g) t.1;
             },
           );
         };
@@ -235,7 +235,7 @@ module _ (n : ℕ) (h : Heap) (k targets g : ℕ) (o : PagesOk h.pages) (e : Emp
   target_other : (t : ℕ) → Chosen (λ g p. in_class (get_or sizes k 0) p && ltb 0 (free p)) h.pages t → g ≢ t
   target_other t c q =
       let ps : List Page = h.pages in
-      let open-page : (page_at ps t).closed ≡ false = not_true (page_at ps t).closed (and_parts _ _ (and_parts _ _ c.passes).0).1 in
+      let open-page : (page_at ps t).closed ≡ false = not-true (page_at ps t).closed (and_parts _ _ (and_parts _ _ c.passes).0).1 in
       true≢false (sym a.closed ∙ ap (λ i. (page_at ps i).closed) q ∙ open-page)
 
   move_to_lowers : (s : ℕ) → lowest_current_block g 0 (page_at h.pages g).slots ≡ Some s → (x : Option (ℕ × ℕ))

@@ -1,6 +1,6 @@
 -- Spent pages: the cut pages that are closed or of a class before the one at hand, of which no source will be chosen any more.
 use Rattle.std.proofs.Common.{◌≡◌, ℕ, suc, ◌<◌, ◌≤◌, Bool, true, false, ◌&&◌, ◌||◌, ltb, List, length, get_or, set, sym, refl, ap, ◌∙◌, ⊎_elim, arith}
-use Rattle.std.proofs.lemmas.Bool.{ltb-true, lt-ltb, le-ltb, eqb-true, and_parts, and_from, and_right, or_from, or_right, or_left, or_cases, not_true}
+use Rattle.std.proofs.lemmas.Bool.{ltb-true, lt-ltb, le-ltb, eqb-true, and_parts, and_from, and_right, or_from, or_right, or_left, or_cases, not-true}
 use Rattle.std.proofs.lemmas.List.{length-set}
 use Rattle.model.specs.Classes.{sizes}
 use Rattle.model.specs.Pages.{Page, uncut, cut, with_closed, page_at, in_class}
@@ -75,7 +75,7 @@ module _ (k : ℕ) (ps : List Page) (g : ℕ) (c : k < 20) (l : g < length ps) (
   was_unspent : is_spent k (page_at ps g) ≡ false
   was_unspent =
       and_right (ltb 0 (page_at ps g).size) _
-      (or_from _ _ (not_true (page_at ps g).closed (and_parts _ _ chosen).1) (le-ltb (page_at ps g).size (get_or sizes k 0) (omega (arith, chosen_size))))
+      (or_from _ _ (not-true (page_at ps g).closed (and_parts _ _ chosen).1) (le-ltb (page_at ps g).size (get_or sizes k 0) (omega (arith, chosen_size))))
 
   now_spent : is_spent k (with_closed (page_at ps g) true) ≡ true
   now_spent = and_from _ _ (lt-ltb 0 (page_at ps g).size (omega (arith, sizes_positive k c, chosen_size))) refl

@@ -3,7 +3,7 @@ use Rattle.agenda_day.proofs.comparison.answer_alike.Goals as goal
 
 pub returns : goal.returns
 returns g c =
-    let same = c.same-key.ensures in (
+    let same = c.same_key.ensures in (
       (λ t. record {
         first = omega (arith, c.first.ensures.value, c.first-2.ensures.value);
         spare = omega (arith, c.spare.ensures.value, c.spare-2.ensures.value);

@@ -16,14 +16,14 @@ returns c =
     let r = c.args.references in
     let d = c.args.words in
     let rows = vec_items c.args.self.now.records in
-    let new = c.in-ok-record.record in
+    let new = c.in_ok-record.record in
     let blank : Record = record { refs = replicate r 0; words = replicate d 0 } in
     let is-blank : record_of new ≡ blank =
     same_rows (vec_items new.references) (replicate r 0) (vec_items new.words) (replicate d 0)
-    c.in-ok-record.ensures.0 c.in-ok-record.ensures.1 in
-    let pushed = joined rows (vec_items c.push.new.self) new blank c.in-ok-push.ensures.items is-blank in
+    c.in_ok-record.ensures.0 c.in_ok-record.ensures.1 in
+    let pushed = joined rows (vec_items c.push.new.self) new blank c.in_ok-push.ensures.items is-blank in
     let number : c.len-2.result ≡ suc (length g.records) =
-    omega (arith, c.in-ok-push.ensures.len, c.len-2.ensures, length-map rows record_of, c.args.self.now.records.ok.0) in
+    omega (arith, c.in_ok-push.ensures.len, c.len-2.ensures, length-map rows record_of, c.args.self.now.records.ok.0) in
     let present : absent g p ≡ false = sym c.absent.ensures ∙ c.if-absent.false in
     let fits : ltb 30 (r + d) ≡ false = le-ltb 30 (r + d) (omega arith) in
     let a = c.args.self.now.agenda in (

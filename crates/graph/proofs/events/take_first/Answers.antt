@@ -12,9 +12,9 @@ use Rattle.graph.proofs.events.take_first.Goals.{then-precedes, else-precedes}
 empty_out : (es : List Event) → es ≡ [] → ◌≡◌ {A = Option model.Event × List model.Event} (None, map event_of es) (first_out (map event_of es))
 empty_out es e = subst (λ xs. ◌≡◌ {A = Option model.Event × List model.Event} (None, map event_of xs) (first_out (map event_of xs))) (sym e) refl
 
-pub returns-then-is-empty : goal.returns-then-is-empty
-returns-then-is-empty c =
-    let none : vec_len c.args.events.now ≡ 0 = true-eqb _ _ c.if-is-empty.ensures in
+pub returns-then-is_empty : goal.returns-then-is_empty
+returns-then-is_empty c =
+    let none : vec_len c.args.events.now ≡ 0 = true-eqb _ _ c.if-is_empty.ensures in
     empty_out (vec_items c.args.events.now)
     (nil_from_length (vec_items c.args.events.now) (omega (arith, c.args.events.now.ok.0)))
 

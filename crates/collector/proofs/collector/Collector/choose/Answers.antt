@@ -40,17 +40,22 @@ module _ (h : Collector) (k : ℕ) (ph : Phase) (qs : List Page) (e : h.phase �
       let x = ap₂ (λ (y : Phase) (ps : List Page). left y ps h.top) is v in
       omega arith
 
-pub invariant-of-self : goal.invariant-of-self
-invariant-of-self c =
+pub invariant_of-self : goal.invariant_of-self
+invariant_of-self c =
     let h = c.args.self.now in
     let k : ℕ = c.args.class in
-    let ph : Phase = c.after-class-self.result in
-    let qs : List Page = view c.close-source.new.self in
-    let is : ph ≡ next_of k = c.after-class-self.ensures in
+    let ph : Phase = c.after_class-self.result in
+    let qs : List Page = view c.close_source.new.self in
+    let is : ph ≡ next_of k = c.after_class-self.ensures in
     let d = done h k ph qs c.requires is c.in-None.ensures.view in
     let f = h.fuel in
     let p = ap (λ (x : Phase). pressed x qs h.top) is ∙ done_pressed qs k h.top in
-    (h.room, (omega arith, (omega arith, (ap (λ (x : Phase). placed x qs) is ∙ done_placed qs k, tt))))
+    record {
+      room = h.room;
+      spare = omega arith;
+      fuel = omega arith;
+      sited = ap (λ (x : Phase). placed x qs) is ∙ done_placed qs k;
+    }
 
 pub returns-in-None : goal.returns-in-None
 returns-in-None c =
@@ -58,15 +63,15 @@ returns-in-None c =
     let k : ℕ = c.args.class in
     record {
       heap =
-          ap₂ (λ (x : Phase) (ps : List Page). with_phase (with_pages (heap_of h) ps) (stage x h.targets)) c.after-class-self.ensures c.in-None.ensures.view
+          ap₂ (λ (x : Phase) (ps : List Page). with_phase (with_pages (heap_of h) ps) (stage x h.targets)) c.after_class-self.ensures c.in-None.ensures.view
           ∙ ap (with_phase (heap_of h)) (done_stage k h.targets)
           ∙ choose_is (heap_of h) k h.targets (source_page (view h.heap) (get_or sizes k 0) h.targets) (sym (chosen_in h k None c.requires c.in-None.ensures.source));
       units = refl;
-      left = done h k c.after-class-self.result (view c.close-source.new.self) c.requires c.after-class-self.ensures c.in-None.ensures.view;
+      left = done h k c.after_class-self.result (view c.close_source.new.self) c.requires c.after_class-self.ensures c.in-None.ensures.view;
     }
 
-pub invariant-of-self-in-Some : goal.invariant-of-self-in-Some
-invariant-of-self-in-Some c =
+pub invariant_of-self-in-Some : goal.invariant_of-self-in-Some
+invariant_of-self-in-Some c =
     let h = c.args.self.now in
     let k : ℕ = c.args.class in
     let g : ℕ = c.in-Some.g in
@@ -74,10 +79,15 @@ invariant-of-self-in-Some c =
     let p = picked_open k h.targets (view h.heap) g (sym (chosen_in h k (Some g) c.requires c.in-Some.ensures.source)) in
     let q = p.0 in
     let a = (at h k None c.requires).0 in
-    let l = choose_left h.heap c.close-source.new.self k g h.top a (omega arith) p.1 c.in-Some.ensures.view in
+    let l = choose_left h.heap c.close_source.new.self k g h.top a (omega arith) p.1 c.in-Some.ensures.view in
     let w = was h k None c.requires in
     let f = h.fuel in
-    (h.room, (omega arith, (omega arith, (closed_placed (view h.heap) (view c.close-source.new.self) k g n a (omega arith) p.1 c.in-Some.ensures.view, tt))))
+    record {
+      room = h.room;
+      spare = omega arith;
+      fuel = omega arith;
+      sited = closed_placed (view h.heap) (view c.close_source.new.self) k g n a (omega arith) p.1 c.in-Some.ensures.view;
+    }
 
 pub returns-in-Some : goal.returns-in-Some
 returns-in-Some c =
@@ -89,7 +99,7 @@ returns-in-Some c =
     let p = picked_open k h.targets (view h.heap) g (sym picked) in
     let q = p.0 in
     let a = (at h k None c.requires).0 in
-    let l = choose_left h.heap c.close-source.new.self k g h.top a (omega arith) p.1 c.in-Some.ensures.view in
+    let l = choose_left h.heap c.close_source.new.self k g h.top a (omega arith) p.1 c.in-Some.ensures.view in
     let w = was h k None c.requires in
     record {
       heap =

@@ -21,34 +21,36 @@ within h qs m g e w =
     let s = h.spare in omega arith
 
 pub bounds-self-self : goal.bounds-self-self
-bounds-self-self c = within c.args.self.now (view c.mark.new.self) c.current-m.result c.requires c.mark.ensures c.if-is-white.ensures
+bounds-self-self c = within c.args.self.now (view c.mark.new.self) c.current-m.result c.requires c.mark.ensures c.if-is_white.ensures
 
-pub invariant-of-self : goal.invariant-of-self
-invariant-of-self c =
+pub invariant_of-self : goal.invariant_of-self
+invariant_of-self c =
     let h = c.args.self.now in
-    let f = fewer (view h.heap) (view c.mark.new.self) c.current-m.result c.mark.ensures c.if-is-white.ensures in
+    let f = fewer (view h.heap) (view c.mark.new.self) c.current-m.result c.mark.ensures c.if-is_white.ensures in
     let qs : List Page = view c.mark.new.self in
     let same : h.top + 1 + white qs ≡ h.top + white (view h.heap) = omega arith in
     let p = pressed_grey qs (view h.heap) (h.top + 1) h.top h.phase c.requires same in
     let l = left_grey qs (view h.heap) (h.top + 1) h.top h.phase c.requires same in
     let s = h.spare in
-    let u = h.fuel in (
-      length-set h.items h.top c.current-m.result ∙ h.room,
-      (omega arith, (omega arith, (placed_grey qs (view h.heap) 0 0 h.phase c.requires ∙ h.sited, tt))),
-    )
+    let u = h.fuel in record {
+      room = length-set h.items h.top c.current-m.result ∙ h.room;
+      spare = omega arith;
+      fuel = omega arith;
+      sited = placed_grey qs (view h.heap) 0 0 h.phase c.requires ∙ h.sited;
+    }
 
-pub returns-then-is-white : goal.returns-then-is-white
-returns-then-is-white c =
+pub returns-then-is_white : goal.returns-then-is_white
+returns-then-is_white c =
     let h = c.args.self.now in
     let ps : List Page = view h.heap in
     let m : ℕ = c.current-m.result in
     let is : m ≡ current ps c.args.n = c.current-m.ensures in
-    let f = fewer ps (view c.mark.new.self) m c.mark.ensures c.if-is-white.ensures in
+    let f = fewer ps (view c.mark.new.self) m c.mark.ensures c.if-is_white.ensures in
     let r = h.room in
-    let w = within h (view c.mark.new.self) m c.requires c.mark.ensures c.if-is-white.ensures in
+    let w = within h (view c.mark.new.self) m c.requires c.mark.ensures c.if-is_white.ensures in
     let qs : List Page = view c.mark.new.self in
     let same : h.top + 1 + white qs ≡ h.top + white ps = omega arith in
-    let wh : white_of (block_at ps (current ps c.args.n)) ≡ true = ap (λ (x : ℕ). white_of (block_at ps x)) (sym is) ∙ sym c.if-is-white.ensures in
+    let wh : white_of (block_at ps (current ps c.args.n)) ≡ true = ap (λ (x : ℕ). white_of (block_at ps x)) (sym is) ∙ sym c.if-is_white.ensures in
     record {
       heap =
           ap₂ (λ (x : List Page) (y : List ℕ). record { pages = x; work = y; phase = stage h.phase h.targets; units = h.units })

@@ -8,18 +8,23 @@ use Rattle.collector.proofs.Sounds.{placed_in}
 use Rattle.collector.proofs.Makes.{Harmless, made_harmless, made_heap}
 use Rattle.collector.proofs.collector.Collector.make.Goals as goal
 
-pub invariant-of-self : goal.invariant-of-self
-invariant-of-self c =
+pub invariant_of-self : goal.invariant_of-self
+invariant_of-self c =
     let h = c.args.self.now in
     let qs : List Page = view c.make.new.self in
-    let e : qs ≡ new_pages (view h.heap) c.args.r c.args.d c.mark-from-from.result = c.make.ensures.view in
-    let H : List Page → Type 0 = λ x. Harmless h.heap c.args.r c.args.d c.mark-from-from.result h.targets h.top h.phase c.mark-from-from.ensures (placed_in h.phase (view h.heap) h.sited) x in
-    let k = subst H (sym e) (made_harmless h.heap c.args.r c.args.d c.mark-from-from.result h.targets h.top h.phase c.mark-from-from.ensures (placed_in h.phase (view h.heap) h.sited)) in
+    let e : qs ≡ new_pages (view h.heap) c.args.r c.args.d c.mark_from-from.result = c.make.ensures.view in
+    let H : List Page → Type 0 = λ x. Harmless h.heap c.args.r c.args.d c.mark_from-from.result h.targets h.top h.phase c.mark_from-from.ensures (placed_in h.phase (view h.heap) h.sited) x in
+    let k = subst H (sym e) (made_harmless h.heap c.args.r c.args.d c.mark_from-from.result h.targets h.top h.phase c.mark_from-from.ensures (placed_in h.phase (view h.heap) h.sited)) in
     let a = k.lefts in
     let b = k.presses in
     let u = h.fuel in
     let v = h.spare in
-    (h.room, (omega arith, (omega arith, (k.places, tt))))
+    record {
+      room = h.room;
+      spare = omega arith;
+      fuel = omega arith;
+      sited = k.places;
+    }
 
 pub returns : goal.returns
 returns c =
@@ -28,5 +33,5 @@ returns c =
       number = c.make.ensures.number;
       heap =
           ap (with_pages (heap_of h)) c.make.ensures.view
-          ∙ made_heap h.heap c.args.r c.args.d c.mark-from-from.result h.targets h.top h.phase c.mark-from-from.ensures (placed_in h.phase (view h.heap) h.sited) (heap_of h) refl refl;
+          ∙ made_heap h.heap c.args.r c.args.d c.mark_from-from.result h.targets h.top h.phase c.mark_from-from.ensures (placed_in h.phase (view h.heap) h.sited) (heap_of h) refl refl;
     }

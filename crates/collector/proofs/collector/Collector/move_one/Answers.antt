@@ -102,39 +102,44 @@ module _ (h : Collector) (k g s : ℕ) (e : h.phase ≡ Moving k (Some g)) (slot
           (sym (ap (λ (y : Phase). placed y (view h.heap)) e) ∙ h.sited)
 
 -- the number of the block is small
-pub overflow-add-n : goal.overflow-add-n
-overflow-add-n c =
+pub overflow_add-n : goal.overflow_add-n
+overflow_add-n c =
     let a = low c.args.self.now c.args.class c.args.g c.args.s c.requires.phase c.requires.slot in
     let b = short c.args.self.now c.args.class c.args.g c.args.s c.requires.phase c.requires.slot in
     omega arith
 
-pub overflow-add-n-2 : goal.overflow-add-n-2
-overflow-add-n-2 c =
+pub overflow_add-n-2 : goal.overflow_add-n-2
+overflow_add-n-2 c =
     let a = low c.args.self.now c.args.class c.args.g c.args.s c.requires.phase c.requires.slot in
     let b = short c.args.self.now c.args.class c.args.g c.args.s c.requires.phase c.requires.slot in
     omega arith
 
-pub overflow-cast-n : goal.overflow-cast-n
-overflow-cast-n c =
+pub overflow_cast-n : goal.overflow_cast-n
+overflow_cast-n c =
     let a = low c.args.self.now c.args.class c.args.g c.args.s c.requires.phase c.requires.slot in
     let b = short c.args.self.now c.args.class c.args.g c.args.s c.requires.phase c.requires.slot in
     omega arith
 
-pub invariant-of-self : goal.invariant-of-self
-invariant-of-self c =
+pub invariant_of-self : goal.invariant_of-self
+invariant_of-self c =
     let h = c.args.self.now in
     let k : ℕ = c.args.class in
     let g : ℕ = c.args.g in
-    let ph : Phase = c.after-class-self.result in
+    let ph : Phase = c.after_class-self.result in
     let qs : List Page = view c.reopen.new.self in
-    let is : ph ≡ next_of k = c.after-class-self.ensures in
+    let is : ph ≡ next_of k = c.after_class-self.ensures in
     let put = stays_put h k g c.args.s c.requires.phase c.requires.slot c.in-None.ensures.target in
     let v : qs ≡ close_page (view h.heap) g false =
     c.reopen.ensures ∙ ap (λ (ps : List Page). close_page ps g false) (c.in-None.ensures.view ∙ ap (moved_to (view h.heap) (number g c.args.s)) (target_is h k g c.args.s c.requires.phase c.requires.slot ∙ put)) in
     let d = done h k g ph qs c.requires.phase is v in
     let f = h.fuel in
     let p = ap (λ (x : Phase). pressed x qs h.top) is ∙ done_pressed qs k h.top in
-    (h.room, (omega arith, (omega arith, (ap (λ (x : Phase). placed x qs) is ∙ done_placed qs k, tt))))
+    record {
+      room = h.room;
+      spare = omega arith;
+      fuel = omega arith;
+      sited = ap (λ (x : Phase). placed x qs) is ∙ done_placed qs k;
+    }
 
 pub returns-in-None : goal.returns-in-None
 returns-in-None c =
@@ -146,21 +151,26 @@ returns-in-None c =
     c.reopen.ensures ∙ ap (λ (ps : List Page). close_page ps g false) (c.in-None.ensures.view ∙ ap (moved_to (view h.heap) (number g c.args.s)) (target_is h k g c.args.s c.requires.phase c.requires.slot ∙ put)) in
     record {
       heap =
-          ap₂ (λ (x : Phase) (ps : List Page). with_phase (with_pages (heap_of h) ps) (stage x h.targets)) c.after-class-self.ensures v
+          ap₂ (λ (x : Phase) (ps : List Page). with_phase (with_pages (heap_of h) ps) (stage x h.targets)) c.after_class-self.ensures v
           ∙ ap (with_phase (with_pages (heap_of h) (close_page (view h.heap) g false))) (done_stage k h.targets)
           ∙ ap (move_to (heap_of h) k h.targets g c.args.s) (sym put);
       units = refl;
-      left = done h k g c.after-class-self.result (view c.reopen.new.self) c.requires.phase c.after-class-self.ensures v;
+      left = done h k g c.after_class-self.result (view c.reopen.new.self) c.requires.phase c.after_class-self.ensures v;
     }
 
-pub invariant-of-self-in-Some : goal.invariant-of-self-in-Some
-invariant-of-self-in-Some c =
+pub invariant_of-self-in-Some : goal.invariant_of-self-in-Some
+invariant_of-self-in-Some c =
     let h = c.args.self.now in
-    let qs : List Page = view c.move-block.new.self in
+    let qs : List Page = view c.move_block.new.self in
     let l = falls h c.args.class c.args.g c.args.s c.requires.phase c.requires.slot c.in-Some.t c.in-Some.ensures.target qs c.in-Some.ensures.view in
     let f = h.fuel in
     let p = ap (λ (y : Phase). pressed y qs h.top) c.requires.phase in
-    (h.room, (omega arith, (omega arith, (stands h c.args.class c.args.g c.args.s c.requires.phase c.requires.slot c.in-Some.t c.in-Some.ensures.target qs c.in-Some.ensures.view, tt))))
+    record {
+      room = h.room;
+      spare = omega arith;
+      fuel = omega arith;
+      sited = stands h c.args.class c.args.g c.args.s c.requires.phase c.requires.slot c.in-Some.t c.in-Some.ensures.target qs c.in-Some.ensures.view;
+    }
 
 pub returns-in-Some : goal.returns-in-Some
 returns-in-Some c =
@@ -169,10 +179,10 @@ returns-in-Some c =
     let g : ℕ = c.args.g in
     let s : ℕ = c.args.s in
     let t : ℕ = c.in-Some.t in
-    let qs : List Page = view c.move-block.new.self in
+    let qs : List Page = view c.move_block.new.self in
     let V = moves h k g s c.requires.phase c.requires.slot t c.in-Some.ensures.target qs c.in-Some.ensures.view in
-    let flag = c.with-flag-self.ensures.0 (goal_low h k g s c.requires.phase c.requires.slot t c.in-Some.ensures.target) in
-    let S : stage h.phase c.with-flag-self.result ≡ moving k (Some g) (with_flag_set h.targets t) = ap₂ stage c.requires.phase flag in
+    let flag = c.with_flag-self.ensures.0 (goal_low h k g s c.requires.phase c.requires.slot t c.in-Some.ensures.target) in
+    let S : stage h.phase c.with_flag-self.result ≡ moving k (Some g) (with_flag_set h.targets t) = ap₂ stage c.requires.phase flag in
     record {
       heap =
           ap₂ (λ (x : Stage) (y : List Page). with_phase (with_pages (heap_of h) y) x) S V

@@ -10,25 +10,30 @@ use Rattle.collector.proofs.collector.Collector.set_reference.Goals as goal
 kept : (ps qs : List Page) (n f v : ℕ) → qs ≡ write_ref ps n f v → Keeps ps qs
 kept ps qs n f v e = let K : List Page → Type 0 = λ x. Keeps ps x in subst K (sym e) (write_ref_keeps ps n f v)
 
-pub invariant-of-self : goal.invariant-of-self
-invariant-of-self c =
+pub invariant_of-self : goal.invariant_of-self
+invariant_of-self c =
     let h = c.args.self.now in
     let ps : List Page = view h.heap in
-    let qs : List Page = view c.write-reference.new.self in
-    let k = kept ps qs c.args.n c.args.f c.args.v c.write-reference.ensures in
+    let qs : List Page = view c.write_reference.new.self in
+    let k = kept ps qs c.args.n c.args.f c.args.v c.write_reference.ensures in
     let p = keep_pressed ps qs k h.phase h.top in
     let l = keep_left ps qs k h.phase h.top in
     let s = h.spare in
     let u = h.fuel in
-    (h.room, (omega arith, (omega arith, (keep_placed ps qs k h.phase ∙ h.sited, tt))))
+    record {
+      room = h.room;
+      spare = omega arith;
+      fuel = omega arith;
+      sited = keep_placed ps qs k h.phase ∙ h.sited;
+    }
 
 pub returns : goal.returns
 returns c =
     let h = c.args.self.now in
-    let k = kept (view h.heap) (view c.write-reference.new.self) c.args.n c.args.f c.args.v c.write-reference.ensures in
+    let k = kept (view h.heap) (view c.write_reference.new.self) c.args.n c.args.f c.args.v c.write_reference.ensures in
     record {
-      heap = ap (with_pages (heap_of h)) c.write-reference.ensures;
+      heap = ap (with_pages (heap_of h)) c.write_reference.ensures;
       phase = refl;
       units = refl;
-      left = keep_left (view h.heap) (view c.write-reference.new.self) k h.phase h.top;
+      left = keep_left (view h.heap) (view c.write_reference.new.self) k h.phase h.top;
     }

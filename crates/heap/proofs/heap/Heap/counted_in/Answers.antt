@@ -5,12 +5,12 @@ use Rattle.heap.proofs.Views.{full, few_slots}
 use Rattle.heap.proofs.Counts.{either_way, used_most}
 use Rattle.heap.proofs.heap.Heap.counted_in.Goals as goal
 
-pub overflow-sub-result : goal.overflow-sub-result
-overflow-sub-result c =
+pub overflow_sub-result : goal.overflow_sub-result
+overflow_sub-result c =
     let h = c.args.self.now in
     let xs : List (Option Block) = (page_at (view h) c.args.g).slots in
     let e = either_way c.args.g 0 xs in
-    let a = c.current-in-k.ensures.count in
+    let a = c.current_in-k.ensures.count in
     let b = c.used.ensures h.words (full h) in
     omega arith
 
@@ -19,8 +19,8 @@ returns-then-current c =
     let h = c.args.self.now in
     let xs : List (Option Block) = (page_at (view h) c.args.g).slots in
     record {
-      count = c.current-in-k.ensures.count ∙ ap (λ (b : Bool). count_slots b c.args.g 0 xs) (sym c.if-current.true);
-      few = c.current-in-k.ensures.few;
+      count = c.current_in-k.ensures.count ∙ ap (λ (b : Bool). count_slots b c.args.g 0 xs) (sym c.if-current.true);
+      few = c.current_in-k.ensures.few;
     }
 
 pub returns-else-current : goal.returns-else-current
@@ -28,7 +28,7 @@ returns-else-current c =
     let h = c.args.self.now in
     let xs : List (Option Block) = (page_at (view h) c.args.g).slots in
     let e = either_way c.args.g 0 xs in
-    let a = c.current-in-k.ensures.count in
+    let a = c.current_in-k.ensures.count in
     let b = c.used.ensures h.words (full h) in
     let f = few_slots h c.args.g c.requires in
     let m = used_most xs in

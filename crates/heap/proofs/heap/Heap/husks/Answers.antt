@@ -7,5 +7,5 @@ pub returns : goal.returns
 returns c =
     let h = c.args.self.now in
     let a = all_either_way 0 (view h) in
-    let e = c.count-blocks.ensures in
+    let e = c.count_blocks.ensures in
     record { count = e; together = omega arith }

@@ -6,15 +6,15 @@ use Rattle.heap.proofs.Views.{few_slots}
 use Rattle.heap.proofs.Counts.{current_step, current_end}
 use Rattle.heap.proofs.heap.Heap.lowest_in.Goals as goal
 
-pub is-current-requires : goal.is-current-requires
-is-current-requires c =
+pub is_current-requires : goal.is_current-requires
+is_current-requires c =
     let h = c.args.self.now in
     let f = few_slots h c.args.g c.requires in
     let n = c.blocks-n.ensures in
     (c.requires, omega arith)
 
-pub returns-then-is-current : goal.returns-then-is-current
-returns-then-is-current c =
+pub returns-then-is_current : goal.returns-then-is_current
+returns-then-is_current c =
     let h = c.args.self.now in
     let xs : List (Option Block) = (page_at (view h) c.args.g).slots in
     let s : ℕ = c.loop-s.s in
@@ -22,7 +22,7 @@ returns-then-is-current c =
     sym
     (sym c.loop-s.invariant
     ∙ current_step c.args.g xs s (omega arith)
-    ∙ ap (λ (b : Bool). cond b (Some s) (lowest_current_block c.args.g (s + 1) (drop (s + 1) xs))) (sym c.if-is-current.ensures))
+    ∙ ap (λ (b : Bool). cond b (Some s) (lowest_current_block c.args.g (s + 1) (drop (s + 1) xs))) (sym c.if-is_current.ensures))
 
 pub loop-s-preserved : goal.loop-s-preserved
 loop-s-preserved c =
@@ -30,7 +30,7 @@ loop-s-preserved c =
     let xs : List (Option Block) = (page_at (view h) c.args.g).slots in
     let s : ℕ = c.loop-s.s in
     let n = c.blocks-n.ensures in
-    sym (ap (λ (b : Bool). cond b (Some s) (lowest_current_block c.args.g (s + 1) (drop (s + 1) xs))) (sym c.if-is-current.ensures))
+    sym (ap (λ (b : Bool). cond b (Some s) (lowest_current_block c.args.g (s + 1) (drop (s + 1) xs))) (sym c.if-is_current.ensures))
     ∙ sym (current_step c.args.g xs s (omega arith))
     ∙ c.loop-s.invariant
 

@@ -29,7 +29,7 @@ returns-then-r-gt30 c =
       | then-r-gt30-via-else-r-gt30+then-d-r w ↦ (let a = w.if-d-r.true in let b = w.if-r-gt30.false in omega arith)
     ] in
     let e = new_over (view h) c.args.r c.args.d over in
-    record { number = no_number (view h) c.args.r c.args.d c.args.mark-from e; view = no_pages (view h) c.args.r c.args.d c.args.mark-from e }
+    record { number = no_number (view h) c.args.r c.args.d c.args.mark_from e; view = no_pages (view h) c.args.r c.args.d c.args.mark_from e }
 
 -- the block that was taken, by the size that the code has
 taken : (es fs : List Entry) (g z size f : ℕ) (m : Bool) → size ≡ f → Taken es fs g z f m → Taken es fs g z size m
@@ -42,11 +42,11 @@ pub clear-requires : goal.clear-requires
 clear-requires c =
     let h = c.args.self.now in
     let few = few_of c.args.r c.args.d c.if-r-gt30.false c.if-d-r.false in
-    let t = taken h.pages.entries c.allocate.new.self.entries c.in-Some.page c.in-Some.slot c.fitting.result (fitting (2 + c.args.r + c.args.d)) (leb c.args.mark-from c.in-Some.page)
+    let t = taken h.pages.entries c.allocate.new.self.entries c.in-Some.page c.in-Some.slot c.fitting.result (fitting (2 + c.args.r + c.args.d)) (leb c.args.mark_from c.in-Some.page)
     c.fitting.ensures.size c.in-Some.ensures.block.0 in (
       two c.args.r c.args.d,
       (
-        made_room h.pages.entries c.allocate.new.self.entries h.words c.in-Some.page c.in-Some.slot c.fitting.result c.args.r c.args.d (leb c.args.mark-from c.in-Some.page) t (full h) h.wide few c.fitting.ensures.smallest,
+        made_room h.pages.entries c.allocate.new.self.entries h.words c.in-Some.page c.in-Some.slot c.fitting.result c.args.r c.args.d (leb c.args.mark_from c.in-Some.page) t (full h) h.wide few c.fitting.ensures.smallest,
         h.wide c.in-Some.page t.low,
       ),
     )
@@ -54,12 +54,17 @@ clear-requires c =
     two : (r d : ℕ) → 2 ≤ 2 + r + d
     two r d = omega arith
 
-pub invariant-of-self : goal.invariant-of-self
-invariant-of-self c =
+pub invariant_of-self : goal.invariant_of-self
+invariant_of-self c =
     let h = c.args.self.now in
     let same = c.in-None.ensures.block.0 in
     let F : List Entry → Type 0 = λ es. Fits es h.words in
-    (ap length same ∙ h.count, (h.tall, (h.wide, (subst F (sym same) h.fits, tt))))
+    record {
+      count = ap length same ∙ h.count;
+      tall = h.tall;
+      wide = h.wide;
+      fits = subst F (sym same) h.fits;
+    }
 
 pub returns-in-None : goal.returns-in-None
 returns-in-None c =
@@ -68,32 +73,25 @@ returns-in-None c =
     let b = c.if-r-gt30.false in
     let e = new_none (view h) c.args.r c.args.d (omega arith) (c.in-None.ensures.block.1 h.words (full h)) in
     record {
-      number = no_number (view h) c.args.r c.args.d c.args.mark-from e;
-      view = ap (λ (es : List Entry). pages_of es h.words) c.in-None.ensures.block.0 ∙ no_pages (view h) c.args.r c.args.d c.args.mark-from e;
+      number = no_number (view h) c.args.r c.args.d c.args.mark_from e;
+      view = ap (λ (es : List Entry). pages_of es h.words) c.in-None.ensures.block.0 ∙ no_pages (view h) c.args.r c.args.d c.args.mark_from e;
     }
 
-pub invariant-of-self-in-Some : goal.invariant-of-self-in-Some
-invariant-of-self-in-Some c =
+pub invariant_of-self-in-Some : goal.invariant_of-self-in-Some
+invariant_of-self-in-Some c =
     let h = c.args.self.now in
     let es = h.pages.entries in
     let fs = c.allocate.new.self.entries in
     let g : ℕ = c.in-Some.page in
     let z : ℕ = c.in-Some.slot in
-    let m : Bool = leb c.args.mark-from g in
+    let m : Bool = leb c.args.mark_from g in
     let few = few_of c.args.r c.args.d c.if-r-gt30.false c.if-d-r.false in
-    let t = taken es fs g z c.fitting.result (fitting (2 + c.args.r + c.args.d)) m c.fitting.ensures.size c.in-Some.ensures.block.0 in (
-      t.count ∙ h.count,
-      (
-        length-set h.words g c.clear.new.words ∙ h.tall,
-        (
-          made_wide es fs h.words g z c.fitting.result c.args.r c.args.d m t (full h) h.wide few c.fitting.ensures.smallest (number g z) c.clear.new.words c.clear.ensures,
-          (
-            made_fits es fs h.words g z c.fitting.result c.args.r c.args.d m t (full h) h.wide few c.fitting.ensures.smallest (number g z) c.clear.new.words c.clear.ensures h.fits,
-            tt,
-          ),
-        ),
-      ),
-    )
+    let t = taken es fs g z c.fitting.result (fitting (2 + c.args.r + c.args.d)) m c.fitting.ensures.size c.in-Some.ensures.block.0 in record {
+      count = t.count ∙ h.count;
+      tall = length-set h.words g c.clear.new.words ∙ h.tall;
+      wide = made_wide es fs h.words g z c.fitting.result c.args.r c.args.d m t (full h) h.wide few c.fitting.ensures.smallest (number g z) c.clear.new.words c.clear.ensures;
+      fits = made_fits es fs h.words g z c.fitting.result c.args.r c.args.d m t (full h) h.wide few c.fitting.ensures.smallest (number g z) c.clear.new.words c.clear.ensures h.fits;
+    }
 
 pub returns-in-Some : goal.returns-in-Some
 returns-in-Some c =
@@ -104,7 +102,7 @@ returns-in-Some c =
     let z : ℕ = c.in-Some.slot in
     let r : ℕ = c.args.r in
     let d : ℕ = c.args.d in
-    let m : Bool = leb c.args.mark-from g in
+    let m : Bool = leb c.args.mark_from g in
     let few = few_of r d c.if-r-gt30.false c.if-d-r.false in
     let is = c.fitting.ensures.size in
     let t = taken es fs g z c.fitting.result (fitting (2 + r + d)) m is c.in-Some.ensures.block.0 in
@@ -117,5 +115,5 @@ returns-in-Some c =
       view =
           made_view es fs h.words g z c.fitting.result r d m t (full h) h.wide few c.fitting.ensures.smallest (number g z) c.clear.new.words c.clear.ensures refl
           ∙ ap (λ (x : ℕ). put_block (ready_pages (view h) g x) (free_number (ready_pages (view h) g x) g) (new_block (free_number (ready_pages (view h) g x) g) m r d)) is
-          ∙ sym (ap (λ (o : Option ℕ). if_some o (λ g. put_block (ready_pages (view h) g (fitting (2 + r + d))) (free_number (ready_pages (view h) g (fitting (2 + r + d))) g) (new_block (free_number (ready_pages (view h) g (fitting (2 + r + d))) g) (leb c.args.mark-from g) r d)) (view h)) e);
+          ∙ sym (ap (λ (o : Option ℕ). if_some o (λ g. put_block (ready_pages (view h) g (fitting (2 + r + d))) (free_number (ready_pages (view h) g (fitting (2 + r + d))) g) (new_block (free_number (ready_pages (view h) g (fitting (2 + r + d))) g) (leb c.args.mark_from g) r d)) (view h)) e);
     }

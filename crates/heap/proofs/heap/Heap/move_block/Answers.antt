@@ -29,32 +29,32 @@ module _ (h : Heap) (n g s : ℕ) (at : Located h.pages.entries h.words n g s) w
       ∙ ap₂ (λ (x : Bool) (y : ℕ). cond x (target_page (view h) y) None) (closed_is ∙ e)
       (ap (λ (x : ℕ). (page_at (view h) x).size) (sym at.page) ∙ size_is h.pages.entries h.words g h.count h.tall at.low)
 
-pub returns-then-not-is-closed : goal.returns-then-not-is-closed
-returns-then-not-is-closed c =
+pub returns-then-not-is_closed : goal.returns-then-not-is_closed
+returns-then-not-is_closed c =
     let h = c.args.self.now in
-    let e = target_is h c.args.n c.in-Some.g c.in-Some.s c.in-Some.ensures false (sym (c.is-closed.ensures h.count) ∙ c.if-not-is-closed.true) in
+    let e = target_is h c.args.n c.in-Some.g c.in-Some.s c.in-Some.ensures false (sym (c.is_closed.ensures h.count) ∙ c.if-not-is_closed.true) in
     record { target = sym (ap target_number e); view = sym (ap (moved_to (view h) c.args.n) e) }
 
-pub move-found-requires : goal.move-found-requires
-move-found-requires c =
+pub move_found-requires : goal.move_found-requires
+move_found-requires c =
     let h = c.args.self.now in
     let at = c.in-Some.ensures in
     let L : ℕ → Type 0 = λ x. Located h.pages.entries h.words x c.in-Some.g c.in-Some.s in
     record {
       found = subst L (numbered h.pages.entries h.words c.args.n c.in-Some.g c.in-Some.s at) at;
-      closed = sym (c.is-closed.ensures h.count) ∙ c.if-not-is-closed.false;
+      closed = sym (c.is_closed.ensures h.count) ∙ c.if-not-is_closed.false;
     }
 
-pub returns-else-not-is-closed : goal.returns-else-not-is-closed
-returns-else-not-is-closed c =
+pub returns-else-not-is_closed : goal.returns-else-not-is_closed
+returns-else-not-is_closed c =
     let h = c.args.self.now in
     let at = c.in-Some.ensures in
     let n = numbered h.pages.entries h.words c.args.n c.in-Some.g c.in-Some.s at in
-    let e = target_is h c.args.n c.in-Some.g c.in-Some.s at true (sym (c.is-closed.ensures h.count) ∙ c.if-not-is-closed.false) in
+    let e = target_is h c.args.n c.in-Some.g c.in-Some.s at true (sym (c.is_closed.ensures h.count) ∙ c.if-not-is_closed.false) in
     record {
-      target = c.move-found.ensures.target ∙ sym (ap target_number e);
+      target = c.move_found.ensures.target ∙ sym (ap target_number e);
       view =
-          c.move-found.ensures.view
+          c.move_found.ensures.view
           ∙ ap (λ (x : ℕ). moved_to (view h) x (target_page (view h) (entry_at h.pages.entries c.in-Some.g).size)) (sym n)
           ∙ sym (ap (moved_to (view h) c.args.n) e);
     }

@@ -19,12 +19,17 @@ module _ (h : Heap) (g n size : ℕ) (size_is : size ≡ (entry_at h.pages.entri
   none_of : target_page (view h) (entry_at h.pages.entries g).size ≡ None
   none_of = ap (target_page (view h)) (sym size_is) ∙ none
 
-pub invariant-of-self : goal.invariant-of-self
-invariant-of-self c =
+pub invariant_of-self : goal.invariant_of-self
+invariant_of-self c =
     let h = c.args.self.now in
     let same = c.in-None.ensures.block.0 in
     let F : List Entry → Type 0 = λ es. Fits es h.words in
-    (ap length same ∙ h.count, (h.tall, (h.wide, (subst F (sym same) h.fits, tt))))
+    record {
+      count = ap length same ∙ h.count;
+      tall = h.tall;
+      wide = h.wide;
+      fits = subst F (sym same) h.fits;
+    }
 
 pub returns-in-None : goal.returns-in-None
 returns-in-None c =
@@ -41,15 +46,15 @@ apart h g t size l closed target e =
     both_ways (page_at (view h) t).closed target.takes.open_yet
     (ap (λ (x : ℕ). (page_at (view h) x).closed) (sym e) ∙ closed_entry h.pages.entries h.words (full h) g no_entry l ∙ closed)
 
-pub copy-block-requires : goal.copy-block-requires
-copy-block-requires c =
+pub copy_block-requires : goal.copy_block-requires
+copy_block-requires c =
     let h = c.args.self.now in
     let at = c.requires.found in
     let tk = c.in-Some.ensures.block.0 in
     let target = c.in-Some.ensures.chosen h.words (full h) in
     let ne = apart h c.args.g c.in-Some.t c.size-size.result at.low c.requires.closed target in
-    let room = moved_room h.pages.entries c.take-target.new.self.entries h.words h.words (number c.args.g c.args.s) c.args.g c.args.s c.in-Some.t c.in-Some.z c.size-size.result c.is-marked-marked.result
-    h.count h.tall h.wide h.fits at refl (c.size-size.ensures h.count) (c.is-marked-marked.ensures h.count) tk ne target.takes.class in
+    let room = moved_room h.pages.entries c.take_target.new.self.entries h.words h.words (number c.args.g c.args.s) c.args.g c.args.s c.in-Some.t c.in-Some.z c.size-size.result c.is_marked-marked.result
+    h.count h.tall h.wide h.fits at refl (c.size-size.ensures h.count) (c.is_marked-marked.ensures h.count) tk ne target.takes.class in
     let f = at.fit in
     let e = c.size-size.ensures h.count in
     record {
@@ -58,55 +63,48 @@ copy-block-requires c =
       long = (h.tall, (h.wide c.args.g at.low, h.wide c.in-Some.t tk.low));
     }
 
-pub invariant-of-self-in-Some : goal.invariant-of-self-in-Some
-invariant-of-self-in-Some c =
+pub invariant_of-self-in-Some : goal.invariant_of-self-in-Some
+invariant_of-self-in-Some c =
     let h = c.args.self.now in
     let es = h.pages.entries in
-    let fs = c.take-target.new.self.entries in
-    let vss = c.copy-block.new.words in
+    let fs = c.take_target.new.self.entries in
+    let vss = c.copy_block.new.words in
     let at = c.requires.found in
     let g : ℕ = c.args.g in
     let s : ℕ = c.args.s in
     let t : ℕ = c.in-Some.t in
     let z : ℕ = c.in-Some.z in
     let size : ℕ = c.size-size.result in
-    let m : Bool = c.is-marked-marked.result in
+    let m : Bool = c.is_marked-marked.result in
     let tk = c.in-Some.ensures.block.0 in
     let target = c.in-Some.ensures.chosen h.words (full h) in
     let ne = apart h g t size at.low c.requires.closed target in
     let size_is = c.size-size.ensures h.count in
-    let m-is = c.is-marked-marked.ensures h.count in (
-      tk.count ∙ h.count,
-      (
-        moved_tall es fs h.words vss (number g s) g s t z size m h.count h.tall h.wide h.fits at refl size_is m-is tk ne target.takes.class (number t z) refl c.copy-block.ensures,
-        (
-          moved_wide es fs h.words vss (number g s) g s t z size m h.count h.tall h.wide h.fits at refl size_is m-is tk ne target.takes.class (number t z) refl c.copy-block.ensures,
-          (
-            moved_fits es fs h.words vss (number g s) g s t z size m h.count h.tall h.wide h.fits at refl size_is m-is tk ne target.takes.class (number t z) refl c.copy-block.ensures,
-            tt,
-          ),
-        ),
-      ),
-    )
+    let m-is = c.is_marked-marked.ensures h.count in record {
+      count = tk.count ∙ h.count;
+      tall = moved_tall es fs h.words vss (number g s) g s t z size m h.count h.tall h.wide h.fits at refl size_is m-is tk ne target.takes.class (number t z) refl c.copy_block.ensures;
+      wide = moved_wide es fs h.words vss (number g s) g s t z size m h.count h.tall h.wide h.fits at refl size_is m-is tk ne target.takes.class (number t z) refl c.copy_block.ensures;
+      fits = moved_fits es fs h.words vss (number g s) g s t z size m h.count h.tall h.wide h.fits at refl size_is m-is tk ne target.takes.class (number t z) refl c.copy_block.ensures;
+    }
 
 pub returns-in-Some : goal.returns-in-Some
 returns-in-Some c =
     let h = c.args.self.now in
     let es = h.pages.entries in
-    let fs = c.take-target.new.self.entries in
-    let vss = c.copy-block.new.words in
+    let fs = c.take_target.new.self.entries in
+    let vss = c.copy_block.new.words in
     let at = c.requires.found in
     let g : ℕ = c.args.g in
     let s : ℕ = c.args.s in
     let t : ℕ = c.in-Some.t in
     let z : ℕ = c.in-Some.z in
     let size : ℕ = c.size-size.result in
-    let m : Bool = c.is-marked-marked.result in
+    let m : Bool = c.is_marked-marked.result in
     let tk = c.in-Some.ensures.block.0 in
     let target = c.in-Some.ensures.chosen h.words (full h) in
     let ne = apart h g t size at.low c.requires.closed target in
     let size_is = c.size-size.ensures h.count in
-    let m-is = c.is-marked-marked.ensures h.count in
+    let m-is = c.is_marked-marked.ensures h.count in
     let found = c.in-Some.ensures.block.1 h.words (full h) in
     let e : target_page (view h) (entry_at es g).size ≡ Some (found.0, t) = ap (target_page (view h)) (sym size_is) ∙ found.1 in
     let f = at.fit in
@@ -116,7 +114,7 @@ returns-in-Some c =
     record {
       target = sym (ap target_number e);
       view =
-          moved_view es fs h.words vss (number g s) g s t z size m h.count h.tall h.wide h.fits at refl size_is m-is tk ne target.takes.class (number t z) refl c.copy-block.ensures
+          moved_view es fs h.words vss (number g s) g s t z size m h.count h.tall h.wide h.fits at refl size_is m-is tk ne target.takes.class (number t z) refl c.copy_block.ensures
           ∙ ap (λ (x : ℕ). moved (view h) (number g s) (number t x) (block_at (view h) (number g s))) low
           ∙ sym (ap (moved_to (view h) (number g s)) e);
     }

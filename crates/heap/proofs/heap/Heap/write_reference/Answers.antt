@@ -7,7 +7,7 @@ pub returns-then-f-word : goal.returns-then-f-word
 returns-then-f-word c =
     let h = c.args.self.now in
     let P : ℕ → Type 0 = λ x. c.args.f < x % 32 in
-    ap₂ pages_of c.set-word.ensures.entries c.set-word.ensures.words
+    ap₂ pages_of c.set_word.ensures.entries c.set_word.ensures.words
     ∙ put_ref h.pages.entries h.words c.args.n c.in-Some.g c.in-Some.s h.count h.tall h.wide c.in-Some.ensures c.args.f c.args.v (subst P c.word.ensures c.if-f-word.true)
 
 pub returns-else-f-word : goal.returns-else-f-word
