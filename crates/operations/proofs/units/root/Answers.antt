@@ -17,7 +17,7 @@ returns-else-place-held g c clock serial =
     let j = i - c.count-held.result in
     let places = c.count-held.result + c.count.result in
     let after = rooted_in_agenda h holder agenda keys clock serial j places in
-    ap (λ x. together x holder (g.A.Holder.row c.root-in-agenda.new.agenda) (g.A.Agenda.keys c.root-in-agenda.new.agenda) clock serial) c.root-in-agenda.ensures.heap
-    ∙ ap (λ x. together after.heap holder x (g.A.Agenda.keys c.root-in-agenda.new.agenda) clock serial) c.root-in-agenda.ensures.row
-    ∙ ap (λ x. together after.heap holder after.agenda x clock serial) c.root-in-agenda.ensures.keys
+    ap (λ x. together x holder (g.A.Holder.row c.root_in_agenda.new.agenda) (g.A.Agenda.keys c.root_in_agenda.new.agenda) clock serial) c.root_in_agenda.ensures.heap
+    ∙ ap (λ x. together after.heap holder x (g.A.Agenda.keys c.root_in_agenda.new.agenda) clock serial) c.root_in_agenda.ensures.row
+    ∙ ap (λ x. together after.heap holder after.agenda x clock serial) c.root_in_agenda.ensures.keys
     ∙ agenda_root h holder agenda keys clock serial i j places c.requires (le-ltb i (length holder) (omega (arith, long, c.count-held.ensures, c.if-place-held.false))) (omega (arith, long, c.count-held.ensures)) (omega (arith, long, wide, c.count-held.ensures, c.count.ensures))

@@ -6,9 +6,9 @@ use Rattle.operations.specs.Parts.{together}
 use Rattle.operations.proofs.Steps.{rests, goes}
 use Rattle.operations.proofs.units.spend.Goals as goal
 
-pub returns-then-not-is-running : goal.returns-then-not-is-running
-returns-then-not-is-running g c =
-    let still : running (heap_of c.loop-done.collector).phase ≡ false = sym c.is-running.ensures ∙ c.if-not-is-running.true in
+pub returns-then-not-is_running : goal.returns-then-not-is_running
+returns-then-not-is_running g c =
+    let still : running (heap_of c.loop-done.collector).phase ≡ false = sym c.is_running.ensures ∙ c.if-not-is_running.true in
     record {
       after = λ clock serial.
           let s : State = together (heap_of c.loop-done.collector) (g.H.Holder.row c.loop-done.holder) (g.A.Holder.row c.loop-done.agenda) (g.A.Agenda.keys c.loop-done.agenda) clock serial in
@@ -26,6 +26,6 @@ loop-done-preserved g c clock serial =
     let u : ℕ = c.args.units in
     let t = c.loop-done-test.true in
     let e : suc (u - (n + 1)) ≡ u - n = omega arith in
-    let q = goes (u - (n + 1)) s _ (sym c.is-running.ensures ∙ c.if-not-is-running.false) (c.unit.ensures clock serial) in
+    let q = goes (u - (n + 1)) s _ (sym c.is_running.ensures ∙ c.if-not-is_running.false) (c.unit.ensures clock serial) in
     let i = c.loop-done.invariant clock serial in
     (sym q.0 ∙ ap (λ x. steps x s) e ∙ i.0, let d = q.1 in let f = ap (λ x. done_in x s) e in omega (arith, d, f, i.1))

@@ -66,17 +66,17 @@ module _ (h : Collector) (k g s : ℕ) (e : h.phase ≡ Moving k (Some g)) (slot
     found : target_page (view h.heap) (get_or sizes k 0) ≡ Some ((a_target (target_of (view h.heap) (number g s) (block_at (view h.heap) (number g s))) t q).0, t)
     found = sym target_is ∙ (a_target (target_of (view h.heap) (number g s) (block_at (view h.heap) (number g s))) t q).1
 
-    goal : Target (get_or sizes k 0) (view h.heap) t
-    goal = target (get_or sizes k 0) (view h.heap) ((a_target (target_of (view h.heap) (number g s) (block_at (view h.heap) (number g s))) t q).0, t) found
+    chosen : Target (get_or sizes k 0) (view h.heap) t
+    chosen = target (get_or sizes k 0) (view h.heap) ((a_target (target_of (view h.heap) (number g s) (block_at (view h.heap) (number g s))) t q).0, t) found
 
     goal_low : t < 64
-    goal_low = let l = (goal).low in let n = long h.heap in omega arith
+    goal_low = let l = chosen.low in let n = long h.heap in omega arith
 
     goal_slot : lowest_free (page_at (view h.heap) t).slots < 64
-    goal_slot = let r = (goal).room in let f = few_slots h.heap t goal_low in omega arith
+    goal_slot = let r = chosen.room in let f = few_slots h.heap t goal_low in omega arith
 
     differ : g ≡ t → ⊥
-    differ = apart (get_or sizes k 0) (view h.heap) t g goal (at h k (Some g) e).1.1
+    differ = apart (get_or sizes k 0) (view h.heap) t g chosen (at h k (Some g) e).1.1
 
     abbrev copy : ℕ
     copy = number t (lowest_free (page_at (view h.heap) t).slots)

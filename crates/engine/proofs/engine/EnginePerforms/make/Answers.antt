@@ -11,7 +11,7 @@ returns-in-Some g c =
     let e = c.args.self.now in
     let holder = g.H.Holder.row e.holder in
     let s : State = together (heap_of e.collector) holder (g.A.Holder.row e.agenda) (g.A.Agenda.keys e.agenda) e.clock e.serial in
-    let granted = make_granted s c.args.place c.args.references c.args.words c.in-Some.number (sym c.outside.ensures ∙ c.if-outside.false) (sym c.too-large.ensures ∙ c.if-too-large.false) c.in-Some.ensures.number in
+    let granted = make_granted s c.args.place c.args.references c.args.words c.in-Some.number (sym c.outside.ensures ∙ c.if-outside.false) (sym c.too_large.ensures ∙ c.if-too_large.false) c.in-Some.ensures.number in
     record {
       answer = sym (ap (λ x. x.1) granted);
       after =
