@@ -1,5 +1,5 @@
 -- What a write that keeps forms and marks leaves of the numbers.
-use Rattle.std.proofs.Common.{◌≡◌, ℕ, zero, suc, ◌+◌, ◌-◌, ◌*◌, ◌<◌, ◌≤◌, Bool, true, false, cond, not, ◌&&◌, eqb, ltb, List, [], ◌∷◌, length, get_or, set, Some, None, Option, sym, refl, ap, ◌∙◌, subst, ap₂, inl, inr, arith, get_or-set_other, get_or-set_same}
+use Rattle.std.proofs.Common.{◌≡◌, ℕ, ◌+◌, ◌-◌, ◌*◌, ◌<◌, Bool, cond, ◌&&◌, eqb, ltb, List, length, get_or, set, Some, None, Option, sym, refl, ap, ◌∙◌, subst, ap₂, inl, inr, arith, get_or-set_other, get_or-set_same}
 use Rattle.std.proofs.lemmas.Bool.{cases_eq}
 use Rattle.model.specs.Classes.{sizes}
 use Rattle.model.specs.Pages.{Block, Page, uncut, page_of, slot_of, page_at, block_at, put_block, with_slots}
@@ -9,7 +9,7 @@ use Rattle.heap.specs.Blocks.{write_ref, write_ref_in}
 use Rattle.heap.specs.View.{write_word, write_word_in}
 use Rattle.collector.specs.declared.phase.Phase.{Phase}
 use Rattle.collector.specs.declared.phase.Phase.TheVariants.{Idle, Roots, Marking, Sweeping, Moving}
-use Rattle.collector.specs.Counts.{sum_of, slot_white, page_white, white, page_spent, spent, stays, slot_stays}
+use Rattle.collector.specs.Counts.{sum_of, slot_white, white, page_spent, spent, stays, slot_stays}
 use Rattle.collector.specs.Sound.{left, pressed, at_hand, source, placed}
 use Rattle.collector.proofs.Sums.{sum_set, some_within, block_slot, page_within, put_sum}
 

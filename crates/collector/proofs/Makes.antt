@@ -1,12 +1,11 @@
 -- Laws of making a block.
-use Rattle.std.proofs.Common.{◌≡◌, ℕ, zero, suc, ◌+◌, ◌-◌, ◌*◌, ◌/◌, ◌<◌, ◌≤◌, Bool, true, false, cond, not, ◌&&◌, ◌||◌, eqb, ltb, leb, ◌⊎◌, List, [], ◌∷◌, length, get_or, set, replicate, Some, None, Option, sym, refl, ap, ◌∙◌, subst, ap₂, inl, inr, arith, length-set, get_or-set_other, get_or-set_same}
+use Rattle.std.proofs.Common.{◌≡◌, ℕ, zero, suc, ◌+◌, ◌/◌, ◌<◌, ◌≤◌, Bool, true, false, cond, ◌&&◌, ◌||◌, eqb, ltb, leb, List, [], ◌∷◌, length, get_or, replicate, Some, None, Option, sym, refl, ap, ◌∙◌, subst, ap₂, inl, inr, arith, length-set, get_or-set_other, get_or-set_same}
 use native.Mathlib.Nat.{div-le_of_le-mul}
 use lib.ListN.{length-replicate}
-use lib.Seq.{set-get_or}
 use Rattle.std.proofs.lemmas.Nat.{le-div}
-use Rattle.std.proofs.lemmas.Bool.{cases_Bool, cases_eq, and_left, and_parts, both_ways, eqb-true, eq-eqb, ne_eqb, ltb-true, ltb-false, leb-true, leb-false, le-ltb}
+use Rattle.std.proofs.lemmas.Bool.{and_left, and_parts, both_ways, eqb-true, eq-eqb, ne_eqb, ltb-true, ltb-false, leb-true, leb-false, le-ltb}
 use Rattle.model.specs.Classes.{sizes, first_fit, fitting}
-use Rattle.model.specs.Pages.{Block, Page, uncut, cut, number, page_of, slot_of, page_at, block_at, put_block, with_slots, in_class, free, occupied, lowest_free, is_uncut, first_page, current}
+use Rattle.model.specs.Pages.{Block, Page, uncut, cut, page_of, slot_of, page_at, in_class, free, lowest_free, is_uncut, first_page}
 use Rattle.model.specs.State.{Heap, with_pages, Phase as Stage}
 use Rattle.model.specs.Making.{ready, ready_pages, allocated_marked, page_to_take, or_else}
 use Rattle.model.specs.Calls.{if_some}
@@ -15,11 +14,11 @@ use Rattle.heap.specs.View.{view, new_block, new_page, new_pages}
 use Rattle.heap.proofs.Views.{long, few_slots}
 use Rattle.collector.specs.declared.phase.Phase.{Phase}
 use Rattle.collector.specs.declared.phase.Phase.TheVariants.{Idle, Roots, Marking, Sweeping, Moving}
-use Rattle.collector.specs.Counts.{sum_of, slot_white, page_white, white, is_spent, page_spent, spent, stays, slot_stays}
+use Rattle.collector.specs.Counts.{sum_of, slot_white, page_white, white, page_spent, spent, stays}
 use Rattle.collector.specs.Sound.{left, pressed, at_hand, Source, Placed, placed}
 use Rattle.collector.specs.Making.{Sized, Free, Roomy, place_number, placed_in}
 use Rattle.collector.specs.View.{stage, new_heap}
-use Rattle.collector.proofs.Sums.{sum_set, some_within, block_slot, page_within, put_sum}
+use Rattle.collector.proofs.Sums.{sum_set, put_sum}
 use Rattle.collector.proofs.Sounds.{placed_out as sited-out}
 use Rattle.collector.proofs.Moves.{sizes_four, spent_set, put_spent, put_there, room_left, opened}
 

@@ -1,25 +1,24 @@
 -- Laws of the moving phase.
-use Rattle.std.proofs.Common.{◌≡◌, ℕ, zero, suc, ◌+◌, ◌-◌, ◌*◌, ◌<◌, ◌≤◌, Bool, true, false, cond, not, ◌&&◌, ◌||◌, eqb, ltb, leb, ◌⊎◌, List, [], ◌∷◌, length, get_or, set, is_some, Some, None, Option, sym, refl, ap, ◌∙◌, subst, ap₂, inl, inr, arith, length-set, get_or-set_other, get_or-set_same}
-use Rattle.std.proofs.lemmas.Bool.{leb-true, and_right, both_ways, cases_Bool, cases_lt, and_parts, and_from, eqb-true, eq-eqb, ne_eqb, ltb-true, lt-ltb, le-ltb}
+use Rattle.std.proofs.Common.{◌≡◌, ℕ, zero, suc, ◌+◌, ◌-◌, ◌<◌, ◌≤◌, Bool, true, false, cond, not, ◌&&◌, ◌||◌, eqb, ltb, leb, List, [], ◌∷◌, length, get_or, set, is_some, Some, None, Option, sym, refl, ap, ◌∙◌, subst, ap₂, arith, length-set, get_or-set_other, get_or-set_same}
+use Rattle.std.proofs.lemmas.Bool.{leb-true, and_right, both_ways, and_parts, and_from, eqb-true, eq-eqb, ne_eqb, ltb-true, lt-ltb, le-ltb}
 use Rattle.std.proofs.lemmas.List.{get_or_default}
 use Rattle.model.specs.Classes.{sizes}
 use Rattle.model.specs.Maps.{has}
 use Rattle.model.specs.Pages.{Block, Page, uncut, number, page_of, slot_of, page_at, block_at, put_block, with_slots, with_closed, in_class, free, occupied, lowest_free}
 use Rattle.model.specs.State.{Heap, idle, moving, with_pages, with_phase}
-use Rattle.model.specs.Units.{least_page, source_page, target_page, is_current_block, lowest_current_block, with_forward, moved, class_done, close_page, choose_source, free_of_class}
+use Rattle.model.specs.Units.{least_page, source_page, target_page, is_current_block, lowest_current_block, with_forward, class_done, close_page, choose_source, free_of_class}
 use Rattle.pages.specs.Choices.{movable, source_of}
 use Rattle.pages.proofs.Least.{least_found}
 use Rattle.pages.proofs.Choices.{movable_is}
 use Rattle.heap.specs.declared.heap.Heap.{Heap as Blocks}
 use Rattle.heap.specs.View.{view, target_of, target_number}
 use Rattle.heap.proofs.Views.{long, few_slots}
-use Rattle.collector.specs.declared.phase.Phase.{Phase}
-use Rattle.collector.specs.declared.phase.Phase.TheVariants.{Idle, Roots, Marking, Sweeping, Moving}
+use Rattle.collector.specs.declared.phase.Phase.TheVariants.{Idle, Moving}
 use Rattle.collector.specs.Counts.{sum_of, is_spent, page_spent, spent, stays, slot_stays}
-use Rattle.collector.specs.Sound.{left, pressed, at_hand, Source, Placed, placed}
+use Rattle.collector.specs.Sound.{left, pressed, placed}
 use Rattle.collector.specs.Moving.{next_of}
 use Rattle.collector.specs.View.{stage}
-use Rattle.collector.proofs.Sums.{sum_set, sum_bound, some_within, block_slot, page_within}
+use Rattle.collector.proofs.Sums.{sum_set, sum_bound}
 use Rattle.collector.proofs.Sounds.{placed_in, placed_out}
 
 -- ---- the source

@@ -1,11 +1,11 @@
 -- A scan, reference by reference.
-use Rattle.std.proofs.Common.{◌≡◌, ℕ, zero, suc, ◌+◌, ◌<◌, ◌≤◌, Bool, true, false, cond, eqb, ◌⊎◌, List, [], ◌∷◌, length, get_or, drop, set, Some, None, Option, sym, refl, ap, ◌∙◌, subst, ap₂, inl, inr, add-one, arith, length-set, get_or-set_other, get_or-set_same, drop-set-lt}
+use Rattle.std.proofs.Common.{◌≡◌, ℕ, suc, ◌+◌, ◌<◌, ◌≤◌, Bool, true, false, cond, eqb, ◌⊎◌, List, ◌∷◌, length, get_or, drop, set, Some, None, Option, sym, refl, ap, ◌∙◌, ap₂, inl, inr, add-one, arith, length-set, get_or-set_other, get_or-set_same, drop-set-lt}
 use Rattle.std.proofs.lemmas.Bool.{cases_eq, cases_Bool}
 use Rattle.std.proofs.lemmas.List.{at_drop_more, at_drop_all}
 use Rattle.model.specs.Pages.{Block, Page, uncut, page_of, slot_of, page_at, block_at, put_block, with_slots, current, refs_of}
 use Rattle.model.specs.State.{Heap, with_pages}
 use Rattle.model.specs.Units.{grey, marked_block, with_refs, scan}
-use Rattle.heap.specs.Blocks.{write_ref, write_ref_in, marking, mark_in}
+use Rattle.heap.specs.Blocks.{write_ref, write_ref_in, mark_in}
 use Rattle.heap.specs.View.{white_of}
 use Rattle.collector.specs.View.{rescan_at}
 use Rattle.collector.proofs.Sums.{some_within, block_slot, page_within}

@@ -1,21 +1,21 @@
 -- What holds of a collection under way.
-use Rattle.std.proofs.Common.{◌≡◌, ℕ, zero, suc, ◌+◌, ◌-◌, ◌*◌, ◌<◌, ◌≤◌, Bool, true, false, cond, not, ◌&&◌, eqb, ltb, List, [], ◌∷◌, length, get_or, set, Some, None, Option, sym, refl, ap, ◌∙◌, arith, get_or-set_other, get_or-set_same}
+use Rattle.std.proofs.Common.{◌≡◌, ℕ, zero, suc, ◌+◌, ◌<◌, ◌≤◌, Bool, true, false, cond, not, ◌&&◌, eqb, ltb, List, ◌∷◌, length, get_or, set, Some, None, Option, sym, refl, ap, ◌∙◌, arith, get_or-set_other, get_or-set_same}
 use Rattle.std.proofs.lemmas.Bool.{and_parts, and_from, eqb-true, eq-eqb, ltb-true, lt-ltb}
 use Rattle.model.specs.Classes.{sizes}
-use Rattle.model.specs.Pages.{Block, Page, uncut, page_of, slot_of, page_at, block_at, put_block, current, with_slots}
+use Rattle.model.specs.Pages.{Block, Page, uncut, page_of, slot_of, page_at, block_at, put_block, current}
 use Rattle.model.specs.State.{Heap}
 use Rattle.model.specs.Units.{grey, grey_block, marked_block}
-use Rattle.heap.specs.Blocks.{marking, mark_in, write_ref, write_ref_in}
+use Rattle.heap.specs.Blocks.{marking, mark_in}
 use Rattle.heap.specs.View.{white_of}
 use Rattle.collector.specs.declared.phase.Phase.{Phase}
 use Rattle.collector.specs.declared.phase.Phase.TheVariants.{Idle, Roots, Marking, Sweeping, Moving}
-use Rattle.collector.specs.Counts.{sum_of, slot_white, page_white, white, spent, stays, slot_stays}
-use Rattle.collector.specs.Sound.{left, pressed, at_hand, Source, source, Placed, placed, Greys}
+use Rattle.collector.specs.Counts.{sum_of, slot_white, page_white, white}
+use Rattle.collector.specs.Sound.{left, pressed, Source, source, Placed, placed, Greys}
 use Rattle.collector.specs.View.{newest}
 use Rattle.heap.specs.declared.heap.Heap.{Heap as Blocks}
 use Rattle.heap.specs.View.{view}
 use Rattle.heap.proofs.Views.{long, few_slots}
-use Rattle.collector.proofs.Sums.{sum_bound, sum_set, some_within, block_slot, page_within, put_sum}
+use Rattle.collector.proofs.Sums.{sum_bound, some_within, block_slot, page_within, put_sum}
 
 -- ---- the tests and what they say
 

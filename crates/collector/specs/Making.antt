@@ -1,5 +1,5 @@
 -- A new block.
-use Rattle.std.specs.Prelude.{◌≡◌, ℕ, ◌+◌, ◌-◌, ◌<◌, ◌≤◌, Bool, false, ◌⊎◌, List, length, set}
+use Rattle.std.specs.Prelude.{◌≡◌, ℕ, ◌+◌, ◌-◌, ◌<◌, ◌≤◌, Bool, false, ◌⊎◌, List, length}
 use Rattle.model.specs.Pages.{Page, occupied, put_block}
 use Rattle.model.specs.Making.{ready_pages, free_number}
 use Rattle.heap.specs.View.{new_block}

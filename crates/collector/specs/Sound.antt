@@ -1,5 +1,5 @@
 -- What holds of a collection under way, and how many units it can still take.
-use Rattle.std.specs.Prelude.{◌≡◌, ℕ, ◌+◌, ◌-◌, ◌*◌, ◌<◌, ◌≤◌, Bool, true, ◌&&◌, List, Some, None, Option, ◌==◌, nat_lt, slice_index}
+use Rattle.std.specs.Prelude.{◌≡◌, ℕ, ◌+◌, ◌-◌, ◌*◌, ◌<◌, Bool, true, ◌&&◌, List, Some, None, Option, ◌==◌, nat_lt, slice_index}
 use Rattle.model.specs.Classes.{sizes}
 use Rattle.model.specs.Pages.{Page, page_at}
 use Rattle.collector.specs.declared.phase.Phase.{Phase}

@@ -1,5 +1,5 @@
 -- A granted make is a new block, and then an overwrite of the place.
-use Rattle.std.proofs.Common.{◌≡◌, ℕ, ◌+◌, Bool, false, cond, ltb, [], ◌∷◌, Some, None, Ok, Option, Result, sym, refl, ap, ◌∙◌, arith}
+use Rattle.std.proofs.Common.{◌≡◌, ℕ, ◌+◌, Bool, false, cond, ltb, [], ◌∷◌, Some, None, Ok, Option, Result, sym, ap, ◌∙◌, arith}
 use Rattle.calls.specs.declared.Answer.{Answer}
 use Rattle.calls.specs.declared.Answer.TheVariants.{Done}
 use Rattle.calls.specs.declared.Call.TheVariants.{Make}

@@ -1,5 +1,5 @@
 -- A call that nothing refuses: its answer, and what make leaves.
-use Rattle.std.proofs.Common.{◌≡◌, ℕ, suc, ◌+◌, Bool, true, false, cond, ltb, List, [], ◌∷◌, ◌++◌, length, set, replicate, Some, None, Ok, Err, Option, Result, sym, ap, ◌∙◌}
+use Rattle.std.proofs.Common.{◌≡◌, ℕ, suc, ◌+◌, false, ltb, List, [], ◌∷◌, ◌++◌, length, set, replicate, None, Ok, Option, Result, sym, ap, ◌∙◌}
 use Rattle.std.proofs.lemmas.Bool.{cond-false}
 use Rattle.calls.specs.declared.Call.TheVariants.{Make}
 use Rattle.calls.specs.declared.Answer.{Answer}

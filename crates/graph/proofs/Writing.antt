@@ -1,5 +1,5 @@
 -- A record that joins the row, and one that is lent and written: the graph has the change, or is as it was.
-use Rattle.std.proofs.Common.{◌≡◌, ℕ, ◌+◌, ◌-◌, Bool, true, false, cond, List, [], ◌∷◌, ◌++◌, map, get_or, set, vec_items, sym, refl, ap, ◌∙◌, arith}
+use Rattle.std.proofs.Common.{◌≡◌, ℕ, ◌+◌, ◌-◌, Bool, true, false, cond, List, [], ◌∷◌, ◌++◌, map, get_or, set, vec_items, sym, ap, ◌∙◌, arith}
 use Rattle.std.proofs.lemmas.List.{map_push, map-set, set-get_or}
 use Rattle.model.specs.Graph as model
 use Rattle.model.specs.Graph.{record_at, no_such_record, with_record}

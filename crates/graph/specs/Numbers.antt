@@ -1,5 +1,5 @@
 -- A number of a row, where there is one. Assumes nothing.
-use Rattle.std.specs.Prelude.{◌≡◌, ℕ, Bool, cond, List, length, set, is_some, Option, nat_lt, slice_index, slice_set}
+use Rattle.std.specs.Prelude.{◌≡◌, ℕ, Bool, cond, List, length, is_some, Option, nat_lt, slice_index, slice_set}
 use Rattle.std.specs.Option.{unwrap_or}
 
 -- number `i` of the row, or none where the row is shorter

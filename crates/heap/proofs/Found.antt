@@ -1,18 +1,18 @@
 -- Blocks by their numbers: what is found, and what a write makes of all pages.
-use Rattle.std.proofs.Common.{◌≡◌, ℕ, zero, suc, ◌+◌, ◌-◌, ◌*◌, ◌/◌, ◌%◌, ◌^◌, ◌<◌, ◌≤◌, Bool, true, false, cond, eqb, ◌≢◌, ◌⊎◌, List, [], ◌∷◌, length, get_or, set, Some, None, Option, sym, refl, ap, ◌∙◌, subst, ap₂, inl, inr, arith, length-set, get_or-set_other, get_or-set_same}
+use Rattle.std.proofs.Common.{◌≡◌, ℕ, ◌+◌, ◌*◌, ◌/◌, ◌%◌, ◌<◌, ◌≤◌, Bool, true, false, cond, eqb, ◌⊎◌, List, [], length, get_or, set, Some, None, Option, sym, refl, ap, ◌∙◌, subst, ap₂, inl, inr, arith, length-set, get_or-set_other, get_or-set_same}
 use lib.Seq.{set-get_or}
-use Rattle.std.proofs.lemmas.Bool.{ne_eqb, both_ways, cases_eq}
+use Rattle.std.proofs.lemmas.Bool.{ne_eqb, cases_eq}
 use Rattle.std.proofs.lemmas.List.FromFn.{length-map-range_with_len}
 use Rattle.model.specs.Classes.{blocks}
 use Rattle.model.specs.Maps.{has}
 use Rattle.model.specs.Pages.{Block, Page, uncut, with_slots, page_at, page_of, slot_of, block_at, put_block, current, forward_of, number, refs_of, words_of}
 use Rattle.model.specs.Units.{with_refs, with_forward, marked_block}
 use Rattle.pages.specs.declared.entry.Entry.{Entry}
-use Rattle.pages.specs.View.{region, refs_in, words_in, block_of, slot_view, page_view, filled}
-use Rattle.pages.specs.Entries.{entry_view, pages_of, no_entry, entry_at, NoneNew, mark_slot, mark_slot_in}
+use Rattle.pages.specs.View.{region, refs_in, words_in, block_of, slot_view, page_view}
+use Rattle.pages.specs.Entries.{pages_of, no_entry, entry_at, NoneNew, mark_slot, mark_slot_in}
 use Rattle.pages.proofs.Bits.{has_within}
 use Rattle.pages.proofs.Views.{slot_at}
-use Rattle.pages.proofs.Pages.{page_is, page_past, set_words, set_entry}
+use Rattle.pages.proofs.Pages.{page_is, page_past, set_words}
 use Rattle.heap.specs.Blocks.{block_words, Fit, Fits, Wide, Located, with_word, write_ref, write_ref_in, forwarding, forward_in, marking, mark_in}
 use Rattle.heap.proofs.Words.{write_page, block_end, region_here, region_there, region_length, refs_count, refs_at, refs_past, refs_kept, write_forward, write_ref as block-write-ref, write_word as block-write-word, words_count, words_at, words_past, words_kept, with_words}
 

@@ -1,5 +1,5 @@
 -- A new block.
-use Rattle.std.proofs.Common.{◌≡◌, ℕ, ◌+◌, ◌*◌, ◌/◌, ◌%◌, ◌<◌, ◌≤◌, Bool, true, false, cond, eqb, ltb, ◌⊎◌, List, [], length, get_or, set, Some, None, Option, sym, refl, ap, ◌∙◌, subst, ap₂, inl, inr, arith, get_or-set_same, set-set}
+use Rattle.std.proofs.Common.{◌≡◌, ℕ, ◌+◌, ◌*◌, ◌/◌, ◌%◌, ◌<◌, ◌≤◌, Bool, true, false, cond, eqb, List, [], length, get_or, set, Some, None, Option, sym, refl, ap, ◌∙◌, subst, arith, get_or-set_same, set-set}
 use Rattle.std.proofs.lemmas.Bool.{lt-ltb, le-ltb, ne_eqb}
 use Rattle.model.specs.Classes.{fitting}
 use Rattle.model.specs.Pages.{Block, Page, uncut, number, page_at, put_block, lowest_free}
@@ -14,7 +14,7 @@ use Rattle.pages.proofs.Pages.{pages_long}
 use Rattle.heap.specs.Blocks.{Fit, Fits, Wide, Written}
 use Rattle.heap.specs.View.{new_page, new_block}
 use Rattle.heap.proofs.Words.{block_end, region_length, new_block_is, cleared_less}
-use Rattle.heap.proofs.Found.{put_at, put_number}
+use Rattle.heap.proofs.Found.{put_number}
 use Rattle.heap.proofs.Placing.{written_kept, written_cleared, wide_set, placed_view, placed_fits}
 
 -- ---- the page for it

@@ -1,5 +1,5 @@
 -- A block that is taken, and the words that are put there.
-use Rattle.std.proofs.Common.{◌≡◌, ℕ, suc, ◌+◌, ◌*◌, ◌/◌, ◌<◌, ◌≤◌, Bool, true, false, cond, ◌≢◌, ◌⊎◌, List, [], ◌∷◌, length, get_or, set, replicate, Some, None, Option, sym, refl, ap, ◌∙◌, subst, ap₂, inl, inr, mul-le-mul_right, suc-mul, arith, length-drop, length-set, length-take, get_or-set_other, get_or-set_same, ext_get_or}
+use Rattle.std.proofs.Common.{◌≡◌, ℕ, suc, ◌+◌, ◌*◌, ◌<◌, ◌≤◌, Bool, true, false, cond, ◌⊎◌, List, [], length, get_or, set, replicate, Some, None, Option, sym, refl, ap, ◌∙◌, subst, inl, inr, mul-le-mul_right, suc-mul, arith, length-drop, length-set, length-take, get_or-set_other, get_or-set_same, ext_get_or}
 use lib.ListN.{length-replicate, get_or-replicate}
 use lib.Seq.{set-get_or}
 use Rattle.std.proofs.lemmas.Bool.{both_ways, cases_eq, cases_lt}
@@ -9,7 +9,7 @@ use Rattle.model.specs.Pages.{Block, Page, uncut, page_at}
 use Rattle.model.specs.Making.{ready}
 use Rattle.pages.specs.declared.entry.Entry.{Entry}
 use Rattle.pages.specs.View.{region, block_of, slot_view, page_view, filled}
-use Rattle.pages.specs.Entries.{entry_view, pages_of, no_entry, entry_at, Full, Taken}
+use Rattle.pages.specs.Entries.{pages_of, no_entry, entry_at, Full, Taken}
 use Rattle.pages.proofs.Views.{same_counted}
 use Rattle.pages.proofs.Pages.{set_words, page_of_entry}
 use Rattle.heap.specs.Blocks.{Fit, Fits, Wide, Cleared, Written}

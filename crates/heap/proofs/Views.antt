@@ -1,5 +1,5 @@
 -- What holds of every heap's view.
-use Rattle.std.proofs.Common.{◌≡◌, ℕ, ◌<◌, ◌≤◌, length, ◌∙◌, arith}
+use Rattle.std.proofs.Common.{◌≡◌, ℕ, ◌<◌, ◌≤◌, length, arith}
 use Rattle.model.specs.Pages.{page_at}
 use Rattle.pages.specs.Entries.{entry_at, Full}
 use Rattle.pages.proofs.Pages.{pages_long}

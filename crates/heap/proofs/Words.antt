@@ -1,12 +1,12 @@
 -- What a write leaves of a block, of its page, and of a page's view.
-use Rattle.std.proofs.Common.{◌≡◌, ℕ, suc, ◌+◌, ◌-◌, ◌*◌, ◌/◌, ◌%◌, ◌<◌, ◌≤◌, Bool, true, false, cond, ◌≢◌, ◌⊎◌, List, [], ◌∷◌, length, get_or, take, drop, set, replicate, Some, None, Option, sym, refl, ap, ◌∙◌, ap₂, inl, inr, mul-le-mul_right, suc-mul, div-mul-le_self, arith, length-drop, length-set, length-take, get_or-drop, get_or-set_other, get_or-take, get_or-set_same, drop-drop, drop-set-lt, ext_get_or}
+use Rattle.std.proofs.Common.{◌≡◌, ℕ, suc, ◌+◌, ◌-◌, ◌*◌, ◌/◌, ◌%◌, ◌<◌, ◌≤◌, Bool, true, false, cond, ◌≢◌, List, [], ◌∷◌, length, get_or, take, drop, set, replicate, Some, None, Option, sym, refl, ap, ◌∙◌, ap₂, inl, inr, mul-le-mul_right, suc-mul, div-mul-le_self, arith, length-drop, length-set, length-take, get_or-drop, get_or-set_other, get_or-take, get_or-set_same, drop-drop, drop-set-lt, ext_get_or}
 use lib.ListN.{length-replicate, get_or-replicate}
 use lib.Seq.{take-set-lt, take-set-le, drop-set-add}
 use Rattle.std.proofs.lemmas.List.{get_or_past, set_past}
 use Rattle.std.proofs.lemmas.Bool.{cases_lt, cases_eq}
 use Rattle.model.specs.Classes.{blocks}
 use Rattle.model.specs.Maps.{has}
-use Rattle.model.specs.Pages.{Block, Page, with_slots}
+use Rattle.model.specs.Pages.{Block, with_slots}
 use Rattle.model.specs.Units.{with_refs, with_forward}
 use Rattle.pages.specs.View.{region, refs_in, words_in, block_of, slot_view, page_view}
 use Rattle.pages.proofs.Views.{set_counted, same_counted}

@@ -2,11 +2,10 @@
 use Rattle.std.specs.Prelude.{◌≡◌, ℕ, ◌+◌, Bool, true, false, cond, not, List, [], ◌∷◌, length, replicate, Some, None, Option, nat_le, nat_lt, slice_index_or}
 use Rattle.model.specs.Classes.{fitting}
 use Rattle.model.specs.Pages.{Block, Page, number, page_of, page_at, block_at, put_block, refs_of, words_of, occupied, lowest_free}
-use Rattle.model.specs.Units.{close_page, target_page, moved}
+use Rattle.model.specs.Units.{target_page, moved}
 use Rattle.model.specs.Making.{page_to_take, ready_pages, free_number}
 use Rattle.model.specs.Calls.{if_some, with_word}
 use Rattle.pages.specs.Entries.{pages_of}
-use Rattle.pages.specs.Choices.{source_of}
 use Rattle.heap.specs.declared.heap.Heap.{Heap}
 
 abbrev pub view : Heap → List Page

@@ -1,5 +1,5 @@
 -- The first of the events and the others: what is taken out, and what is left.
-use Rattle.std.proofs.Common.{◌≡◌, ℕ, suc, ◌<◌, Bool, true, false, cond, ◌≢◌, ◌⊎◌, List, [], ◌∷◌, length, sym, refl, ap, ◌∙◌, subst, inl, inr, ⊎_elim, arith}
+use Rattle.std.proofs.Common.{◌≡◌, suc, Bool, true, false, cond, ◌≢◌, ◌⊎◌, List, [], ◌∷◌, length, sym, refl, ap, ◌∙◌, subst, inl, inr, ⊎_elim}
 use Rattle.model.specs.Graph.{Event, Member, here, there, before, split_first}
 use Rattle.histories.proofs.Members.{member_cons, member_eq, member_none}
 use Rattle.histories.proofs.Keys.{not_before_itself, not_before_chain, before_one_way}

@@ -1,16 +1,16 @@
 -- Every call keeps a history orderly.
-use Rattle.std.proofs.Common.{◌≡◌, ℕ, suc, ◌+◌, ◌<◌, ◌≤◌, Bool, true, false, cond, eqb, ltb, leb, ◌≢◌, ◌⊎◌, List, [], ◌∷◌, ◌++◌, length, Some, None, Ok, Err, Option, Result, sym, refl, ap, ◌∙◌, subst, inl, inr, ⊎_elim, arith}
+use Rattle.std.proofs.Common.{◌≡◌, ℕ, suc, ◌<◌, ◌≤◌, Bool, true, false, cond, eqb, List, [], ◌∷◌, ◌++◌, length, Some, None, Ok, Option, sym, refl, ap, ◌∙◌, subst, ⊎_elim, arith}
 use Rattle.std.proofs.lemmas.Bool.{true≢false, ltb-false, leb-false}
 use Rattle.calls.specs.declared.Call.{Call}
 use Rattle.calls.specs.declared.Call.TheVariants.{Make, Load, Store, Read, Write, Copy, Clear, Same, Shape, Schedule, Next, Begin, Step, Count}
 use Rattle.calls.specs.declared.Refusal.{Refusal}
 use Rattle.holders.specs.declared.key.Key.{Key}
-use Rattle.model.specs.Graph.{Event, Graph, Member, here, there, before, split_first, popped, graph_after, graph_reply, graph_conditions, graph_refusal, graph_decided, graph_apply, in_place}
+use Rattle.model.specs.Graph.{Event, Graph, Member, before, split_first, popped, graph_after, graph_reply, graph_conditions, graph_refusal, graph_decided, graph_apply, in_place}
 use Rattle.model.specs.Refusals.{first_refusal}
 use Rattle.histories.specs.Histories.{History, extend, extend_by, outset, history, history_from, with_first}
 use Rattle.histories.specs.Order.{Orderly, OrderlyHistory, Continues}
 use Rattle.histories.proofs.Keys.{other_way, not_before_time, before_new}
-use Rattle.histories.proofs.Splits.{Distinct, Splits, split_splits}
+use Rattle.histories.proofs.Splits.{Distinct, split_splits}
 use Rattle.histories.proofs.Members.{member_none, member_cons}
 
 -- what the calls keep: besides order, that no two events to come have one key, and that no event taken is after the clock

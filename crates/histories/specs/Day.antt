@@ -3,7 +3,7 @@ use Rattle.std.specs.Prelude.{◌≡◌, ℕ, List, [], ◌∷◌, map}
 use Rattle.calls.specs.declared.Call.{Call}
 use Rattle.calls.specs.declared.Call.TheVariants.{Make, Schedule, Next}
 use Rattle.model.specs.Graph.{Event}
-use Rattle.histories.specs.Histories.{History, history}
+use Rattle.histories.specs.Histories.{history}
 
 -- the schedule at time 2 is refused, since an event of time 3 was taken by then, and so is the fourth next
 abbrev pub day : List Call

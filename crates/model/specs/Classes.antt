@@ -1,5 +1,5 @@
 -- The size classes: how many words a block may have, and how many blocks a page is cut into.
-use Rattle.std.specs.Prelude.{ℕ, zero, suc, ◌+◌, ◌/◌, min, max, Bool, true, false, cond, ◌&&◌, List, [], ◌∷◌, ◌==◌, nat_le}
+use Rattle.std.specs.Prelude.{ℕ, ◌+◌, ◌/◌, min, max, Bool, false, cond, ◌&&◌, List, [], ◌∷◌, ◌==◌, nat_le}
 
 -- words of a block, smallest class first
 abbrev pub sizes : List ℕ

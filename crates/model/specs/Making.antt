@@ -1,5 +1,5 @@
 -- Where a new record goes, and what is greyed before a number is overwritten.
-use Rattle.std.specs.Prelude.{ℕ, zero, suc, ◌+◌, Bool, true, false, cond, ◌&&◌, List, [], ◌∷◌, replicate, Some, None, Option, nat_le, nat_lt, slice_index, slice_set}
+use Rattle.std.specs.Prelude.{ℕ, Bool, true, false, cond, ◌&&◌, List, replicate, Some, None, Option, nat_le, nat_lt, slice_index, slice_set}
 use Rattle.model.specs.Pages.{Block, Page, cut, number, page_at, put_block, free, lowest_free, in_class, is_uncut, first_page}
 use Rattle.model.specs.State.{Phase, idle, roots, marking, sweeping, moving, Heap, State, with_heap, with_holder, with_pages}
 use Rattle.model.specs.Units.{grey}

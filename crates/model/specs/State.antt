@@ -1,5 +1,5 @@
 -- The state of a store: its heap, the numbers in its places, the keys of its agenda, its clock and the next serial.
-use Rattle.std.specs.Prelude.{ℕ, Bool, true, false, List, [], ◌∷◌, replicate, Some, None, Option}
+use Rattle.std.specs.Prelude.{ℕ, Bool, true, false, List, [], replicate, None, Option}
 use Rattle.holders.specs.declared.key.Key.{Key}
 use Rattle.model.specs.Pages.{Page, uncut}
 

@@ -1,12 +1,12 @@
 -- Worked examples of the definitions, one row each, named for what it shows.
-use Rattle.std.specs.Prelude.{◌≡◌, ℕ, zero, suc, ◌-◌, Bool, true, false, List, [], ◌∷◌, ◌++◌, length, replicate, Some, None, Ok, Err, Option, Result}
+use Rattle.std.specs.Prelude.{◌≡◌, ℕ, zero, suc, ◌-◌, true, false, List, [], ◌∷◌, ◌++◌, replicate, Some, None, Ok, Err, Option, Result}
 use Rattle.calls.specs.declared.Call.{Call}
 use Rattle.calls.specs.declared.Call.TheVariants.{Make, Load, Store, Read, Write, Clear, Schedule, Next, Begin, Step, Count}
 use Rattle.calls.specs.declared.Answer.{Answer}
 use Rattle.calls.specs.declared.Answer.TheVariants.{Done, Word, Time, Progress, Counts}
 use Rattle.calls.specs.declared.Refusal.{Refusal}
 use Rattle.calls.specs.declared.Refusal.TheVariants.{TooLarge, NoSuchWord, NoRoom}
-use Rattle.model.specs.Classes.{sizes, blocks, by_rule}
+use Rattle.model.specs.Classes.{sizes, by_rule}
 use Rattle.model.specs.Pages.{Block, Page, uncut, number, page_at}
 use Rattle.model.specs.State.{idle, moving, running, State, fresh, with_heap}
 use Rattle.model.specs.Units.{steps}

@@ -1,5 +1,5 @@
 -- What the parts of an engine make up.
-use Rattle.std.specs.Prelude.{ℕ, Bool, cond, List, [], ◌∷◌, Some, None, Option}
+use Rattle.std.specs.Prelude.{ℕ, cond, List, Some, None, Option}
 use Rattle.holders.specs.declared.key.Key.{Key}
 use Rattle.model.specs.Pages.{Block}
 use Rattle.model.specs.State.{State, Heap, running}

@@ -1,12 +1,12 @@
 -- The choices obey their laws.
-use Rattle.std.proofs.Common.{◌≡◌, ℕ, zero, suc, ◌+◌, ◌<◌, ◌≤◌, Bool, true, false, cond, not, ◌&&◌, eqb, ltb, leb, ◌⊎◌, List, [], ◌∷◌, length, get_or, Some, None, Option, sym, refl, ap, ◌∙◌, subst, ap₂, inl, inr, arith}
-use Rattle.std.proofs.lemmas.Bool.{and_parts, and_from, both_ways, eqb-true, eq-eqb, ne_eqb, ltb-true, lt-ltb, cases_Bool}
+use Rattle.std.proofs.Common.{◌≡◌, ℕ, zero, suc, ◌+◌, ◌<◌, Bool, true, false, cond, not, ◌&&◌, eqb, ltb, leb, List, [], ◌∷◌, length, get_or, Some, None, Option, sym, refl, ap, ◌∙◌, subst, inl, inr, arith}
+use Rattle.std.proofs.lemmas.Bool.{and_parts, and_from, both_ways, eqb-true, eq-eqb, ne_eqb, ltb-true, lt-ltb}
 use Rattle.model.specs.Classes.{fitting}
 use Rattle.model.specs.Maps.{has}
 use Rattle.model.specs.Pages.{Page, uncut, page_at, in_class, free, occupied, is_uncut, first_page}
 use Rattle.model.specs.Units.{source_page, target_page, free_of_class}
 use Rattle.model.specs.Making.{page_to_take, or_else}
-use Rattle.pages.specs.Choices.{movable, Takes, LowestOpen, LowestUncut, FullUp, ChosenPage, Before, Source, Target, Sourced, room_for}
+use Rattle.pages.specs.Choices.{movable, Takes, ChosenPage, Before, Source, Target, Sourced, room_for}
 use Rattle.pages.proofs.Least.{least_found, least_first, least_none}
 
 no_some : {A : Type 0} {B : Type 0} (x : A) → ◌≡◌ {A = Option A} None (Some x) → B

@@ -1,19 +1,17 @@
 -- The view of all pages: reading one page, and changing one.
-use Rattle.std.proofs.Common.{◌≡◌, ℕ, zero, suc, ◌+◌, ◌-◌, ◌*◌, ◌/◌, ◌%◌, ◌^◌, ◌<◌, ◌≤◌, Bool, true, false, cond, not, ◌&&◌, eqb, ◌≢◌, ◌⊎◌, List, [], ◌∷◌, map, length, get_or, drop, set, replicate, Some, None, Option, sym, refl, ap, ◌∙◌, subst, ap₂, inl, inr, add-one, arith, length-set, get_or-set_other, get_or-set_same}
-use lib.Bits.{bit_or}
+use Rattle.std.proofs.Common.{◌≡◌, ℕ, zero, suc, ◌+◌, ◌/◌, ◌<◌, ◌≤◌, Bool, true, false, cond, not, ◌&&◌, eqb, List, [], ◌∷◌, length, get_or, drop, set, replicate, Some, None, sym, refl, ap, ◌∙◌, subst, ap₂, inl, inr, add-one, arith, length-set, get_or-set_other, get_or-set_same}
 use lib.ListN.{get_or-replicate, length-replicate}
 use lib.Seq.{set-get_or}
-use Rattle.std.proofs.lemmas.Bool.{ne_eqb, both_ways, cases_eq, cases_lt}
+use Rattle.std.proofs.lemmas.Bool.{cases_eq, cases_lt}
 use Rattle.std.proofs.lemmas.List.{get_or_default, get_or_past, set_past, at_drop_more, at_drop_all}
-use Rattle.std.proofs.lemmas.List.FromFn.{length-map-range_with_len}
 use Rattle.model.specs.Classes.{blocks}
 use Rattle.model.specs.Maps.{has, with_flag_set}
-use Rattle.model.specs.Pages.{Block, Page, uncut, with_slots, with_closed, page_at, in_class, free, lowest_free, count_pages, is_uncut, first_page}
+use Rattle.model.specs.Pages.{Page, uncut, with_closed, page_at, in_class, free, count_pages, is_uncut, first_page}
 use Rattle.model.specs.Units.{free_of_class}
 use Rattle.pages.specs.declared.entry.Entry.{Entry}
 use Rattle.pages.specs.View.{region, block_of, slot_view, page_view, filled}
 use Rattle.pages.specs.Entries.{entry_view, pages_of, no_entry, entry_at, Full, NoneNew, Changed, mark_slot, mark_slot_in}
-use Rattle.pages.proofs.Bits.{has_past, has_within, has_none, lowest_none}
+use Rattle.pages.proofs.Bits.{has_past, has_within, has_none}
 use Rattle.pages.proofs.Views.{slot_at, mark_page, block_marked, view_uncut}
 
 pub page_is : (es : List Entry) (wss : List (List ℕ)) (g : ℕ) (p : Page) (d : Entry) → g < length es → g < length wss

@@ -1,19 +1,18 @@
 -- A block that is taken.
-use Rattle.std.proofs.Common.{◌≡◌, ℕ, zero, suc, ◌+◌, ◌-◌, ◌/◌, ◌<◌, ◌≤◌, Bool, true, false, cond, ◌⊎◌, List, [], ◌∷◌, length, get_or, set, replicate, Some, None, Option, sym, refl, ap, ◌∙◌, subst, ap₂, inl, inr, arith, length-set}
+use Rattle.std.proofs.Common.{◌≡◌, ℕ, zero, suc, ◌/◌, ◌<◌, ◌≤◌, Bool, true, false, cond, ◌⊎◌, List, [], ◌∷◌, length, get_or, set, replicate, Some, None, Option, sym, refl, ap, ◌∙◌, subst, ap₂, inl, inr, arith, length-set}
 use lib.Count.{ones}
 use lib.ListN.{get_or-replicate}
-use lib.Seq.{set-get_or}
 use Rattle.std.proofs.lemmas.Nat.{le-div}
 use Rattle.std.proofs.lemmas.List.FromFn.{length-map-range_with_len}
 use Rattle.std.proofs.lemmas.Bool.{cases_eq, both_ways, eq-eqb, ne_eqb}
 use Rattle.model.specs.Classes.{blocks}
 use Rattle.model.specs.Maps.{has}
-use Rattle.model.specs.Pages.{Block, Page, uncut, cut, page_at, free, occupied, lowest_free, is_uncut}
+use Rattle.model.specs.Pages.{Block, Page, cut, page_at, occupied, lowest_free}
 use Rattle.model.specs.Making.{ready}
 use Rattle.pages.specs.declared.entry.Entry.{Entry}
 use Rattle.pages.specs.View.{page_view, slot_view, filled, block_of, region}
-use Rattle.pages.specs.Entries.{entry_view, pages_of, entry_at, no_entry, Full, Taken}
-use Rattle.pages.specs.Choices.{Takes, Room, LowestOpen, LowestUncut, ChosenPage, Target}
+use Rattle.pages.specs.Entries.{entry_view, pages_of, entry_at, Full, Taken}
+use Rattle.pages.specs.Choices.{Takes, Room, ChosenPage}
 use Rattle.pages.proofs.Bits.{has_none, lowest_none}
 use Rattle.pages.proofs.Views.{slot_at, slots_used, slots_free}
 use Rattle.pages.proofs.Pages.{set_entry, entry_here, entry_there, page_of_entry}

@@ -1,19 +1,17 @@
 -- What a write leaves of a page's view.
-use Rattle.std.proofs.Common.{◌≡◌, ℕ, zero, suc, ◌+◌, ◌-◌, ◌*◌, ◌/◌, ◌%◌, ◌^◌, ◌<◌, ◌≤◌, Bool, true, false, cond, not, ◌&&◌, ◌||◌, eqb, ◌≢◌, ◌⊎◌, List, [], ◌∷◌, map, length, get_or, take, drop, set, replicate, is_some, Some, None, Option, sym, refl, ap, ◌∙◌, subst, ap₂, inl, inr, mul-le-mul_right, suc-mul, div-mul-le_self, div-one, arith, length-drop, length-set, length-take, get_or-drop, get_or-set_other, get_or-take, get_or-set_same, drop-drop, drop-set-lt, ext_get_or}
+use Rattle.std.proofs.Common.{◌≡◌, ℕ, zero, suc, ◌+◌, ◌-◌, ◌^◌, ◌<◌, ◌≤◌, Bool, true, false, cond, ◌&&◌, eqb, ◌≢◌, List, ◌∷◌, map, get_or, set, replicate, is_some, Some, None, Option, sym, refl, ap, ◌∙◌, subst, ap₂, inl, inr, div-one, arith, length-set, get_or-set_other, get_or-set_same}
 use lib.Bits.{bit_and, bit_or, and_le_l}
 use lib.Count.{ones, count_trailing_zeros}
-use lib.ListN.{length-replicate, get_or-replicate}
-use lib.Seq.{take-set-lt, take-set-le, drop-set-add}
 use Rattle.std.specs.List.{range_with_len}
-use Rattle.std.proofs.lemmas.List.{same_lists, get_or_past, set_past}
+use Rattle.std.proofs.lemmas.List.{same_lists, get_or_past}
 use Rattle.std.proofs.lemmas.Bool.{cases_lt, cases_eq}
 use Rattle.std.proofs.lemmas.List.FromFn.{length-map-range_with_len, get_or-map-range_with_len}
 use Rattle.model.specs.Classes.{blocks}
 use Rattle.model.specs.Maps.{has}
-use Rattle.model.specs.Pages.{Block, Page, with_slots, uncut, cut, occupied, free, lowest_free}
-use Rattle.model.specs.Units.{with_refs, with_forward, marked_block, survivor, survivors, swept}
-use Rattle.pages.specs.View.{region, refs_in, words_in, block_of, slot_view, page_view, filled}
-use Rattle.pages.proofs.Bits.{has_past, has_within, has_none, has_and, has_more_same, has_more_other, occupied_ones, lowest_trailing, ones_test}
+use Rattle.model.specs.Pages.{Block, with_slots, uncut, cut, occupied, free, lowest_free}
+use Rattle.model.specs.Units.{marked_block, survivor, survivors, swept}
+use Rattle.pages.specs.View.{region, block_of, slot_view, page_view, filled}
+use Rattle.pages.proofs.Bits.{has_past, has_none, has_and, has_more_same, has_more_other, occupied_ones, lowest_trailing, ones_test}
 
 -- ---- lists made from a function of the place
 

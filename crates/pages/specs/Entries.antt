@@ -1,5 +1,5 @@
 -- What the entries of all pages stand for, whatever words the pages have.
-use Rattle.std.specs.Prelude.{◌≡◌, ℕ, ◌/◌, ◌<◌, ◌≤◌, Bool, true, false, ◌⊎◌, List, [], ◌∷◌, length, Some, None, Option, slice_index_or, slice_set, refl}
+use Rattle.std.specs.Prelude.{◌≡◌, ℕ, ◌/◌, ◌<◌, Bool, true, false, ◌⊎◌, List, [], ◌∷◌, length, Some, None, Option, slice_index_or, slice_set, refl}
 use Rattle.std.proofs.Common.{arith, lit<, lit≤}
 use Rattle.model.specs.Maps.{has}
 use Rattle.model.specs.Pages.{Block, Page, page_at, lowest_free}

@@ -1,5 +1,5 @@
 -- What a page's entry and its words stand for.
-use Rattle.std.specs.Prelude.{◌≡◌, ℕ, ◌+◌, ◌*◌, ◌/◌, ◌%◌, ◌<◌, ◌≤◌, Bool, true, false, cond, List, [], ◌∷◌, map, length, take, drop, Some, None, Option, slice_index, slice_set}
+use Rattle.std.specs.Prelude.{ℕ, ◌*◌, ◌/◌, ◌%◌, Bool, cond, List, map, take, drop, Some, None, Option, slice_index, slice_set}
 use Rattle.std.specs.List.{range_with_len}
 use Rattle.model.specs.Classes.{blocks}
 use Rattle.model.specs.Maps.{has}

@@ -1,5 +1,5 @@
 -- What a call that is performed adds to a history.
-use Rattle.std.proofs.Common.{◌≡◌, IfOk, Ok, Err, Result, sym, ap, subst, MatchResult}
+use Rattle.std.proofs.Common.{IfOk, Ok, Err, Result, sym, ap, subst, MatchResult}
 use Rattle.calls.specs.declared.Call.{Call}
 use Rattle.calls.specs.declared.Answer.{Answer}
 use Rattle.calls.specs.declared.Refusal.{Refusal}

@@ -1,15 +1,15 @@
 -- The events and the keyed places of the agenda, one to one.
-use Rattle.std.proofs.Common.{◌≡◌, ℕ, suc, ◌<◌, Bool, true, false, cond, ◌≢◌, ◌⊎◌, List, [], ◌∷◌, length, get_or, set, Some, None, Option, sym, refl, ap, ◌∙◌, subst, ap₂, inl, inr, ⊎_elim, arith}
+use Rattle.std.proofs.Common.{◌≡◌, ℕ, suc, ◌<◌, false, List, ◌∷◌, length, get_or, set, Some, None, Option, sym, refl, ap, ◌∙◌, subst, ap₂, ⊎_elim, arith}
 use Rattle.std.proofs.lemmas.List.{get_or-set_other, get_or-set_same, length-set}
 use Rattle.std.proofs.lemmas.Bool.{cases_eq}
 use Rattle.holders.specs.Keys.{first_of, key_before, spare_of}
 use Rattle.holders.specs.declared.key.Key.{Key}
 use Rattle.model.specs.Pages.{occupied}
 use Rattle.model.specs.Refusals.{first_keyed, keyed_at}
-use Rattle.model.specs.Graph.{Event, Member, before, here, split_first, there}
-use Rattle.histories.proofs.Members.{member_cons, member_eq, member_none}
+use Rattle.model.specs.Graph.{Event, Member, there}
+use Rattle.histories.proofs.Members.{member_cons, member_eq}
 use Rattle.theory.proofs.Lists.{none_some, occupied_drop, occupied_fill, set_cases, some_in, some_same}
-use Rattle.histories.proofs.Splits.{Distinct, Splits, split_splits}
+use Rattle.histories.proofs.Splits.{Distinct, Splits}
 use Rattle.theory.proofs.Keys.{LeastKey, first_is_least, neither_before, spare_none}
 
 -- an event that is not before another

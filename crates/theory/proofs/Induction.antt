@@ -10,7 +10,7 @@ use Rattle.model.specs.Pages.{Block, Page, block_at, occupied, uncut}
 use Rattle.model.specs.State.{Phase, State, fresh, idle, marking, moving, roots, running, sweeping}
 use Rattle.model.specs.Refusals.{conditions, refusal}
 use Rattle.model.specs.Calls.{decided, outcome, reply}
-use Rattle.model.specs.Graph.{Graph, Member, Reached, Record, empty, from_event, from_place, from_ref, graph_after, no_such_record, record_at, there}
+use Rattle.model.specs.Graph.{Graph, Member, Reached, Record, empty, from_event, from_place, from_ref, graph_after, no_such_record, record_at}
 use Rattle.model.specs.Runs.{Run, extend, extend_by, granted, is_begin, run_from, start}
 use Rattle.theory.proofs.PageShapes.{fresh_ok}
 use Rattle.theory.proofs.RunBounds.{begin_is, fresh_none, records_after}

@@ -2,7 +2,7 @@
 use Rattle.std.proofs.Common.{◌≡◌, ℕ, suc, ◌+◌, ◌<◌, ◌≤◌, Bool, true, false, leb, ◌≢◌, ◌⊎◌, List, [], ◌∷◌, ◌++◌, length, get_or, replicate, Some, None, Option, sym, refl, ap, ◌∙◌, subst, inl, inr, ⊎_elim, arith}
 use Rattle.std.proofs.lemmas.List.{length-append}
 use Rattle.std.proofs.lemmas.Bool.{cases_eq, cases_lt, le-leb, lt-leb}
-use Rattle.model.specs.Pages.{Block, Page, block_at, cut, forward_of, page_at, page_of, put_block}
+use Rattle.model.specs.Pages.{Block, Page, block_at, forward_of, page_at, page_of, put_block}
 use Rattle.model.specs.State.{Heap, Phase, idle, marking, moving, roots, sweeping, with_pages}
 use Rattle.model.specs.Making.{allocated_marked}
 use Rattle.model.specs.Graph.{Record}

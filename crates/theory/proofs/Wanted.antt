@@ -6,7 +6,7 @@ use Rattle.holders.specs.declared.key.Key.{Key}
 use Rattle.model.specs.Pages.{Block, block_at, forward_of}
 use Rattle.model.specs.State.{Heap, Phase, State, idle, marking, moving, roots, sweeping, with_heap}
 use Rattle.model.specs.Calls.{begun}
-use Rattle.model.specs.Graph.{Event, Graph, Member, Reached, Record, from_event, from_place, from_ref, here}
+use Rattle.model.specs.Graph.{Event, Graph, Member, Reached, Record, from_event, from_place, from_ref}
 use Rattle.histories.proofs.Members.{member_none}
 use Rattle.theory.proofs.Lists.{In, at_member, in_map_back, in_member, member_in, none_some, some_in, some_same}
 use Rattle.theory.proofs.Memory.{HasBlock, OneBlockEach, form}

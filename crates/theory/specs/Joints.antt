@@ -1,9 +1,9 @@
 -- What a crate that cites the law needs beside it: how runs are put together, and the widths of a state.
-use Rattle.std.specs.Prelude.{◌≡◌, ℕ, ◌≤◌, false, List, [], ◌∷◌, ◌++◌, length, Some, None, Option, slice_index, slice_index_or}
+use Rattle.std.specs.Prelude.{◌≡◌, ℕ, false, List, [], ◌∷◌, ◌++◌, length, None, slice_index, slice_index_or}
 use Rattle.calls.specs.declared.Call.{Call}
 use Rattle.model.specs.State.{running, fresh}
 use Rattle.model.specs.Calls.{apply, run_state}
-use Rattle.model.specs.Runs.{Run, start, run_from, extend}
+use Rattle.model.specs.Runs.{start, run_from, extend}
 use Rattle.model.specs.Law.{Exact}
 
 -- of the run of calls `cs` on a fresh store with `h` places in its holder and `a` in its agenda

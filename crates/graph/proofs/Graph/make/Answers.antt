@@ -1,5 +1,5 @@
 -- The new record stands last, and its number is how many there are.
-use Rattle.std.proofs.Common.{◌≡◌, ℕ, suc, ◌+◌, false, ltb, length, replicate, vec_items, sym, refl, ◌∙◌, arith, le-ltb}
+use Rattle.std.proofs.Common.{◌≡◌, suc, ◌+◌, false, ltb, length, replicate, vec_items, sym, refl, ◌∙◌, arith, le-ltb}
 use Rattle.std.proofs.lemmas.List.{length-map}
 use Rattle.calls.specs.declared.Call.TheVariants.{Make}
 use Rattle.calls.specs.declared.Answer.TheVariants as answer

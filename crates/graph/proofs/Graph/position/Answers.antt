@@ -1,5 +1,5 @@
 -- A number within the records stands for the one that it counts; 0 and a larger number stand for none.
-use Rattle.std.proofs.Common.{◌≡◌, ℕ, ◌+◌, ◌-◌, ◌<◌, length, vec_items, vec_len, ◌∙◌, arith}
+use Rattle.std.proofs.Common.{◌-◌, ◌<◌, length, vec_items, ◌∙◌, arith}
 use Rattle.std.proofs.lemmas.List.{get_or-map, length-map}
 use Rattle.model.specs.Graph.{no_such_record}
 use Rattle.graph.specs.View.{record_of, graph_of}

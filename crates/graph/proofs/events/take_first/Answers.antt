@@ -1,5 +1,5 @@
 -- Each turn sifts one more event; the row that is left and the one carried are the split.
-use Rattle.std.proofs.Common.{◌≡◌, ℕ, ◌+◌, ◌<◌, ◌≤◌, List, [], ◌∷◌, ◌++◌, map, length, get_or, drop, Some, None, vec_items, vec_len, Option, sym, refl, ap, ◌∙◌, subst, arith, true-eqb}
+use Rattle.std.proofs.Common.{◌≡◌, ◌+◌, ◌<◌, ◌≤◌, List, [], ◌∷◌, map, length, get_or, drop, Some, None, vec_items, vec_len, Option, sym, refl, ap, ◌∙◌, subst, arith, true-eqb}
 use Rattle.std.proofs.lemmas.List.{length-map, map-set, get_or-map, drop_more, nil_from_length}
 use Rattle.model.specs.Graph as model
 use Rattle.model.specs.Graph.{split_first}

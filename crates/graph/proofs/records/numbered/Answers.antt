@@ -1,5 +1,5 @@
 -- Past the end of a row there is no number.
-use Rattle.std.proofs.Common.{◌≤◌, length, vec_items, sym, arith, rules, ltb-false}
+use Rattle.std.proofs.Common.{◌≤◌, length, vec_items, sym, arith, rules}
 use Rattle.std.proofs.lemmas.List.{get_or_past}
 use Rattle.graph.proofs.records.numbered.Goals as goal
 

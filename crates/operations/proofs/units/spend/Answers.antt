@@ -1,4 +1,4 @@
-use Rattle.std.proofs.Common.{◌≡◌, ℕ, suc, ◌+◌, ◌-◌, ◌<◌, ◌≤◌, false, sym, ap, ◌∙◌, arith}
+use Rattle.std.proofs.Common.{◌≡◌, ℕ, suc, ◌+◌, ◌-◌, false, sym, ap, ◌∙◌, arith}
 use Rattle.model.specs.State.{State, running}
 use Rattle.model.specs.Units.{steps, done_in}
 use Rattle.collector.specs.View.{heap_of}

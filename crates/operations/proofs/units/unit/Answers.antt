@@ -1,4 +1,4 @@
-use Rattle.std.proofs.Common.{◌≡◌, sym, ap, ◌∙◌}
+use Rattle.std.proofs.Common.{ap, ◌∙◌}
 use Rattle.collector.specs.View.{heap_of}
 use Rattle.operations.specs.Parts.{together}
 use Rattle.operations.proofs.Steps.{root_runs, own}

@@ -1,5 +1,5 @@
 -- What `put_decimal` ensures, and what its steps need.
-use Rattle.std.proofs.Common.{ℕ, ◌+◌, List, ◌++◌, vec_items, sym, ap, ◌∙◌, arith}
+use Rattle.std.proofs.Common.{ℕ, List, ◌++◌, vec_items, sym, ap, ◌∙◌, arith}
 use Rattle.std.proofs.lemmas.Fmt.{decimal_digit, decimal_step}
 use Rattle.printing.proofs.Room.{behind, length_digit, length_step}
 use Rattle.printing.proofs.digits.+put_decimal.Goals as goal

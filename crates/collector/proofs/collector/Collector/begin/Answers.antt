@@ -1,5 +1,4 @@
-use Rattle.std.proofs.Common.{◌≡◌, refl, arith}
-use Rattle.heap.specs.View.{view}
+use Rattle.std.proofs.Common.{refl, arith}
 use Rattle.collector.specs.View.{newest}
 use Rattle.collector.proofs.Sounds.{white_bound}
 use Rattle.collector.proofs.collector.Collector.begin.Goals as goal

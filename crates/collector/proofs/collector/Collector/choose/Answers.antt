@@ -1,20 +1,19 @@
-use Rattle.std.proofs.Common.{◌≡◌, ℕ, suc, ◌+◌, ◌-◌, ◌<◌, ◌≤◌, Bool, true, false, cond, List, length, get_or, Some, None, Option, sym, refl, ap, ◌∙◌, subst, ap₂, arith}
+use Rattle.std.proofs.Common.{◌≡◌, ℕ, ◌<◌, List, get_or, Some, None, Option, sym, refl, ap, ◌∙◌, subst, ap₂, arith}
 use Rattle.model.specs.Classes.{sizes}
-use Rattle.model.specs.Pages.{Page, page_at}
-use Rattle.model.specs.State.{Heap, idle, moving, with_pages, with_phase, Phase as Stage}
-use Rattle.model.specs.Units.{source_page, close_page}
+use Rattle.model.specs.Pages.{Page}
+use Rattle.model.specs.State.{moving, with_pages, with_phase}
+use Rattle.model.specs.Units.{source_page}
 use Rattle.heap.specs.View.{view}
-use Rattle.heap.proofs.Views.{long, few_slots}
+use Rattle.heap.proofs.Views.{long}
 use Rattle.collector.specs.declared.collector.Collector.{Collector}
 use Rattle.collector.specs.declared.phase.Phase.{Phase}
-use Rattle.collector.specs.declared.phase.Phase.TheVariants.{Idle, Moving}
-use Rattle.collector.specs.Counts.{spent}
+use Rattle.collector.specs.declared.phase.Phase.TheVariants.{Moving}
 use Rattle.collector.specs.Sound.{left, pressed, placed, Placed, Source}
 use Rattle.collector.specs.Moving.{next_of}
-use Rattle.collector.specs.View.{heap_of, newest, stage}
+use Rattle.collector.specs.View.{heap_of, stage}
 use Rattle.collector.proofs.Sounds.{placed_in}
 use Rattle.pages.specs.Choices.{movable, source_of}
-use Rattle.collector.proofs.Moves.{Open, picked_open, choose_is, choose_some, choose_left, closed_placed, done_left, done_pressed, done_placed, done_stage, spent_next, source_in}
+use Rattle.collector.proofs.Moves.{picked_open, choose_is, choose_some, choose_left, closed_placed, done_left, done_pressed, done_placed, done_stage, spent_next, source_in}
 use Rattle.collector.proofs.collector.Collector.choose.Goals as goal
 
 -- what the phase says

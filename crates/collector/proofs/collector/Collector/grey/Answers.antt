@@ -1,11 +1,10 @@
-use Rattle.std.proofs.Common.{◌≡◌, ℕ, suc, ◌+◌, ◌<◌, ◌≤◌, true, List, ◌∷◌, length, set, sym, refl, ap, ◌∙◌, subst, ap₂, add-one, arith, length-set}
+use Rattle.std.proofs.Common.{◌≡◌, ℕ, ◌+◌, ◌<◌, true, List, ◌∷◌, set, sym, refl, ap, ◌∙◌, ap₂, add-one, arith, length-set}
 use Rattle.model.specs.Pages.{Page, block_at, current}
-use Rattle.model.specs.State.{Heap}
 use Rattle.heap.specs.Blocks.{marking}
 use Rattle.heap.specs.View.{view, white_of}
 use Rattle.collector.specs.declared.collector.Collector.{Collector}
 use Rattle.collector.specs.Counts.{white}
-use Rattle.collector.specs.Sound.{left, pressed, placed, Greys}
+use Rattle.collector.specs.Sound.{Greys}
 use Rattle.collector.specs.View.{stage, newest, heap_of}
 use Rattle.collector.proofs.Sounds.{white_marking, newest_push, grey_white, left_grey, pressed_grey, placed_grey, pressed_is}
 use Rattle.collector.proofs.collector.Collector.grey.Goals as goal

@@ -1,9 +1,8 @@
-use Rattle.std.proofs.Common.{◌≡◌, true, List, sym, refl, ap, ◌∙◌, subst, arith}
+use Rattle.std.proofs.Common.{◌≡◌, List, sym, refl, ap, ◌∙◌, subst, arith}
 use Rattle.model.specs.Pages.{Page}
 use Rattle.model.specs.State.{with_pages}
 use Rattle.heap.specs.View.{view, new_pages}
-use Rattle.collector.specs.Sound.{left, pressed, placed}
-use Rattle.collector.specs.View.{heap_of, stage}
+use Rattle.collector.specs.View.{heap_of}
 use Rattle.collector.proofs.Sounds.{placed_in}
 use Rattle.collector.proofs.Makes.{Harmless, made_harmless, made_heap}
 use Rattle.collector.proofs.collector.Collector.make.Goals as goal

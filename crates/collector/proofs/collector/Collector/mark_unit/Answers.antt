@@ -1,13 +1,10 @@
-use Rattle.std.proofs.Common.{◌≡◌, ℕ, zero, suc, ◌+◌, ◌-◌, ◌<◌, ◌≤◌, List, [], ◌∷◌, length, get_or, sym, refl, ap, ◌∙◌, subst, ap₂, arith}
-use Rattle.model.specs.Pages.{Page, block_at, refs_of}
-use Rattle.model.specs.State.{Heap}
-use Rattle.model.specs.Units.{scan, marking_unit}
+use Rattle.std.proofs.Common.{◌≡◌, ℕ, suc, ◌-◌, sym, refl, ap, ◌∙◌, arith}
+use Rattle.model.specs.Units.{marking_unit}
 use Rattle.heap.specs.View.{view}
 use Rattle.collector.specs.declared.phase.Phase.{Phase}
-use Rattle.collector.specs.declared.phase.Phase.TheVariants.{Idle, Roots, Marking, Sweeping, Moving}
-use Rattle.collector.specs.Counts.{white}
+use Rattle.collector.specs.declared.phase.Phase.TheVariants.{Marking}
 use Rattle.collector.specs.Sound.{left}
-use Rattle.collector.specs.View.{heap_of, newest, stage}
+use Rattle.collector.specs.View.{heap_of, newest}
 use Rattle.collector.proofs.collector.Collector.mark_unit.Goals as goal
 
 pub returns-then-self-eq0 : goal.returns-then-self-eq0

@@ -1,18 +1,17 @@
-use Rattle.std.proofs.Common.{◌≡◌, ℕ, suc, ◌+◌, ◌-◌, ◌<◌, ◌≤◌, Bool, true, false, cond, ◌&&◌, ltb, List, length, get_or, Some, None, Option, sym, refl, ap, ◌∙◌, subst, ap₂, arith}
+use Rattle.std.proofs.Common.{◌≡◌, ℕ, ◌<◌, true, false, List, get_or, Some, None, Option, sym, refl, ap, ◌∙◌, subst, ap₂, arith}
 use Rattle.model.specs.Classes.{sizes}
 use Rattle.model.specs.Maps.{with_flag_set}
-use Rattle.model.specs.Pages.{Block, Page, number, page_of, page_at, block_at, put_block, lowest_free, in_class, free}
-use Rattle.model.specs.State.{Heap, idle, moving, with_pages, with_phase, Phase as Stage}
+use Rattle.model.specs.Pages.{Page, number, page_at, block_at, put_block, lowest_free}
+use Rattle.model.specs.State.{moving, with_pages, with_phase, Phase as Stage}
 use Rattle.model.specs.Units.{target_page, move_to, moved, close_page, lowest_current_block, with_forward}
 use Rattle.heap.specs.View.{view, target_of, target_number, moved_to}
 use Rattle.heap.proofs.Views.{long, few_slots}
 use Rattle.collector.specs.declared.collector.Collector.{Collector}
 use Rattle.collector.specs.declared.phase.Phase.{Phase}
-use Rattle.collector.specs.declared.phase.Phase.TheVariants.{Idle, Moving}
-use Rattle.collector.specs.Counts.{spent}
+use Rattle.collector.specs.declared.phase.Phase.TheVariants.{Moving}
 use Rattle.collector.specs.Sound.{left, pressed, placed, Placed, Source}
 use Rattle.collector.specs.Moving.{next_of}
-use Rattle.collector.specs.View.{heap_of, newest, stage}
+use Rattle.collector.specs.View.{heap_of, stage}
 use Rattle.collector.proofs.Sounds.{placed_in}
 use Rattle.collector.proofs.Moves.{Target, Moved, done_left, done_pressed, done_placed, done_stage, reopen_spent, to_move, block_there, target, apart, moved_left, moved_placed, target_in, no_target, a_target}
 use Rattle.collector.proofs.collector.Collector.move_one.Goals as goal

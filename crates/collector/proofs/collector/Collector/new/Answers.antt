@@ -1,4 +1,4 @@
-use Rattle.std.proofs.Common.{◌≡◌, List, [], ap}
+use Rattle.std.proofs.Common.{List, [], ap}
 use Rattle.model.specs.Pages.{Page}
 use Rattle.model.specs.State.{Heap, idle}
 use Rattle.collector.specs.View.{newest}

@@ -1,6 +1,5 @@
-use Rattle.std.proofs.Common.{◌≡◌, ℕ, ◌+◌, ◌<◌, ◌≤◌, length, get_or, sym, refl, ap, ◌∙◌, subst, arith}
+use Rattle.std.proofs.Common.{ℕ, get_or, sym, refl, ap, ◌∙◌, subst, arith}
 use Rattle.model.specs.Pages.{block_at, refs_of}
-use Rattle.heap.specs.View.{view}
 use Rattle.collector.specs.Sound.{Greys}
 use Rattle.collector.specs.View.{heap_of}
 use Rattle.collector.proofs.Scans.{scan_step, scan_count, scan_end}

@@ -1,4 +1,4 @@
-use Rattle.std.proofs.Common.{◌≡◌, ap, ◌∙◌}
+use Rattle.std.proofs.Common.{ap, ◌∙◌}
 use Rattle.model.specs.State.{State, fresh}
 use Rattle.operations.specs.Parts.{together}
 use Rattle.engine.proofs.engine.Engine.new.Goals as goal

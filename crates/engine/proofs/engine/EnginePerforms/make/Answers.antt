@@ -1,5 +1,5 @@
-use Rattle.std.proofs.Common.{◌≡◌, ℕ, get_or, set, sym, ap, ◌∙◌}
-use Rattle.model.specs.State.{State, Heap}
+use Rattle.std.proofs.Common.{get_or, sym, ap, ◌∙◌}
+use Rattle.model.specs.State.{State}
 use Rattle.model.specs.Making.{barrier}
 use Rattle.collector.specs.View.{heap_of, new_heap}
 use Rattle.operations.specs.Parts.{together}

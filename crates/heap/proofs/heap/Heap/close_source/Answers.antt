@@ -1,11 +1,4 @@
-use Rattle.std.proofs.Common.{◌≡◌, ℕ, true, List, Some, None, Option, sym, refl, ap, ◌∙◌}
-use Rattle.model.specs.Pages.{Page, with_closed}
-use Rattle.model.specs.Units.{close_page}
-use Rattle.model.specs.Calls.{if_some}
-use Rattle.pages.specs.declared.entry.Entry.{Entry}
-use Rattle.pages.specs.Entries.{pages_of, Full}
-use Rattle.pages.specs.Choices.{Closes}
-use Rattle.heap.specs.Blocks.{Fits}
+use Rattle.std.proofs.Common.{◌∙◌}
 use Rattle.heap.proofs.Views.{full}
 use Rattle.heap.proofs.Moving.{closes_count, closes_fits, closes_view}
 use Rattle.heap.proofs.heap.Heap.close_source.Goals as goal

@@ -1,5 +1,5 @@
-use Rattle.std.proofs.Common.{◌≡◌, ℕ, ◌+◌, ◌-◌, ◌≤◌, Bool, true, false, List, length, Option, sym, ap, ◌∙◌, arith}
-use Rattle.model.specs.Pages.{Block, page_at, occupied, count_slots}
+use Rattle.std.proofs.Common.{◌≡◌, Bool, false, List, Option, sym, ap, ◌∙◌, arith}
+use Rattle.model.specs.Pages.{Block, page_at, count_slots}
 use Rattle.heap.specs.View.{view}
 use Rattle.heap.proofs.Views.{full, few_slots}
 use Rattle.heap.proofs.Counts.{either_way, used_most}

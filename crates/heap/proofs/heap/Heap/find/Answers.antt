@@ -1,4 +1,4 @@
-use Rattle.std.proofs.Common.{◌≡◌, ℕ, sym, ap, ◌∙◌, inl, inr, arith}
+use Rattle.std.proofs.Common.{ℕ, sym, ap, inl, inr, arith}
 use Rattle.model.specs.Pages.{block_at}
 use Rattle.pages.specs.Entries.{pages_of}
 use Rattle.heap.proofs.Found.{found, missed, block_past}

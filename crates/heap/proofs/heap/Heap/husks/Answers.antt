@@ -1,4 +1,4 @@
-use Rattle.std.proofs.Common.{◌≡◌, arith}
+use Rattle.std.proofs.Common.{arith}
 use Rattle.heap.specs.View.{view}
 use Rattle.heap.proofs.Counts.{all_either_way}
 use Rattle.heap.proofs.heap.Heap.husks.Goals as goal

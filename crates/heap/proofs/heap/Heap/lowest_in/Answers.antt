@@ -1,4 +1,4 @@
-use Rattle.std.proofs.Common.{◌≡◌, ℕ, ◌+◌, ◌<◌, Bool, true, false, cond, List, length, drop, Some, None, Option, sym, ap, ◌∙◌, arith}
+use Rattle.std.proofs.Common.{ℕ, ◌+◌, Bool, cond, List, drop, Some, Option, sym, ap, ◌∙◌, arith}
 use Rattle.model.specs.Pages.{Block, page_at}
 use Rattle.model.specs.Units.{lowest_current_block}
 use Rattle.heap.specs.View.{view}

@@ -1,4 +1,4 @@
-use Rattle.std.proofs.Common.{◌≡◌, ℕ, ◌+◌, ◌-◌, ◌*◌, ◌/◌, ◌<◌, ◌≤◌, Bool, leb, List, [], length, get_or, set, Some, None, Option, sym, refl, ap, ◌∙◌, subst, ap₂, arith, length-set}
+use Rattle.std.proofs.Common.{◌≡◌, ℕ, ◌+◌, ◌-◌, ◌<◌, ◌≤◌, Bool, leb, List, length, Some, None, Option, sym, refl, ap, ◌∙◌, subst, arith, length-set}
 use Rattle.model.specs.Classes.{fitting}
 use Rattle.model.specs.Pages.{Page, number, put_block}
 use Rattle.model.specs.Making.{ready_pages, free_number}

@@ -1,6 +1,5 @@
-use Rattle.std.proofs.Common.{◌≡◌, ℕ, Bool, true, false, cond, Some, None, Option, sym, refl, ap, ◌∙◌, subst, ap₂, inl, inr, arith}
-use Rattle.std.proofs.lemmas.Bool.{cases_eq}
-use Rattle.model.specs.Pages.{Block, Page, number, page_of, page_at, block_at}
+use Rattle.std.proofs.Common.{◌≡◌, ℕ, Bool, true, false, cond, None, sym, ap, ◌∙◌, subst, ap₂}
+use Rattle.model.specs.Pages.{page_of, page_at, block_at}
 use Rattle.model.specs.Units.{target_page}
 use Rattle.pages.specs.Entries.{no_entry, entry_at}
 use Rattle.pages.proofs.Pages.{closed_entry}

@@ -1,14 +1,14 @@
-use Rattle.std.proofs.Common.{◌≡◌, ℕ, ◌+◌, ◌*◌, ◌<◌, ◌≤◌, Bool, true, false, List, [], length, get_or, Some, None, Option, sym, refl, ap, ◌∙◌, subst, arith}
+use Rattle.std.proofs.Common.{◌≡◌, ℕ, ◌<◌, Bool, true, List, length, Some, None, sym, refl, ap, ◌∙◌, subst, arith}
 use Rattle.std.proofs.lemmas.Bool.{both_ways}
 use Rattle.model.specs.Pages.{Page, number, page_at, block_at, lowest_free}
 use Rattle.model.specs.Units.{target_page, moved}
 use Rattle.pages.specs.declared.entry.Entry.{Entry}
-use Rattle.pages.specs.Entries.{pages_of, no_entry, entry_at, Taken}
+use Rattle.pages.specs.Entries.{pages_of, no_entry, entry_at}
 use Rattle.pages.specs.Choices.{Target}
 use Rattle.pages.proofs.Pages.{closed_entry}
 use Rattle.pages.proofs.Taking.{ready_same}
 use Rattle.heap.specs.declared.heap.Heap.{Heap}
-use Rattle.heap.specs.Blocks.{Fits, Located, Copied}
+use Rattle.heap.specs.Blocks.{Fits}
 use Rattle.heap.specs.View.{view, target_number, moved_to}
 use Rattle.heap.proofs.Views.{full}
 use Rattle.heap.proofs.Moving.{moved_room, moved_wide, moved_tall, moved_fits, moved_view}

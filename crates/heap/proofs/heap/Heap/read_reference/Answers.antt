@@ -1,6 +1,5 @@
-use Rattle.std.proofs.Common.{◌≡◌, ℕ, ◌+◌, ◌*◌, ◌%◌, ◌<◌, ◌≤◌, length, get_or, sym, ap, ◌∙◌, subst, ap₂, arith}
-use Rattle.pages.specs.Entries.{pages_of}
-use Rattle.heap.proofs.Found.{its_forward, its_count, its_ref, no_ref, put_ref, keep_ref}
+use Rattle.std.proofs.Common.{ℕ, ◌%◌, ◌<◌, ◌≤◌, sym, ◌∙◌, subst}
+use Rattle.heap.proofs.Found.{its_ref, no_ref}
 use Rattle.heap.proofs.heap.Heap.read_reference.Goals as goal
 
 pub returns-then-f-word : goal.returns-then-f-word

@@ -1,4 +1,4 @@
-use Rattle.std.proofs.Common.{◌≡◌, ◌∙◌}
+use Rattle.std.proofs.Common.{◌∙◌}
 use Rattle.heap.proofs.Views.{full}
 use Rattle.heap.proofs.Found.{none_new_fits}
 use Rattle.heap.proofs.heap.Heap.reopen.Goals as goal

@@ -1,4 +1,4 @@
-use Rattle.std.proofs.Common.{◌≡◌, ℕ, ◌/◌, ◌%◌, sym, ap, ◌∙◌, ap₂}
+use Rattle.std.proofs.Common.{ℕ, ◌/◌, ◌%◌, sym, ap, ◌∙◌, ap₂}
 use Rattle.heap.proofs.Found.{its_count, its_words}
 use Rattle.heap.proofs.heap.Heap.shape.Goals as goal
 

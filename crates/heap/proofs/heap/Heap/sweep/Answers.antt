@@ -1,4 +1,4 @@
-use Rattle.std.proofs.Common.{◌≡◌, ◌∙◌}
+use Rattle.std.proofs.Common.{◌∙◌}
 use Rattle.pages.specs.Entries.{pages_of}
 use Rattle.heap.specs.View.{view}
 use Rattle.heap.proofs.Views.{full}

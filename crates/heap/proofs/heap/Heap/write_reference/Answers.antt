@@ -1,6 +1,6 @@
-use Rattle.std.proofs.Common.{◌≡◌, ℕ, ◌+◌, ◌*◌, ◌%◌, ◌<◌, ◌≤◌, length, get_or, sym, ap, ◌∙◌, subst, ap₂, arith}
+use Rattle.std.proofs.Common.{ℕ, ◌%◌, ◌<◌, ◌≤◌, ◌∙◌, subst, ap₂}
 use Rattle.pages.specs.Entries.{pages_of}
-use Rattle.heap.proofs.Found.{its_forward, its_count, its_ref, no_ref, put_ref, keep_ref}
+use Rattle.heap.proofs.Found.{put_ref, keep_ref}
 use Rattle.heap.proofs.heap.Heap.write_reference.Goals as goal
 
 pub returns-then-f-word : goal.returns-then-f-word

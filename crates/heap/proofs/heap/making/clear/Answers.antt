@@ -1,4 +1,4 @@
-use Rattle.std.proofs.Common.{ℕ, ◌+◌, set, arith, length-set}
+use Rattle.std.proofs.Common.{◌+◌, set, arith, length-set}
 use Rattle.heap.proofs.Copying.{zeroed_none, zeroed_more, zeroed_all}
 use Rattle.heap.proofs.heap.making.clear.Goals as goal
 

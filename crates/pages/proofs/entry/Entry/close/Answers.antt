@@ -1,4 +1,4 @@
-use Rattle.std.proofs.Common.{◌≡◌, refl, arith}
+use Rattle.std.proofs.Common.{refl, arith}
 use Rattle.pages.specs.View.{page_view}
 use Rattle.pages.proofs.entry.Entry.close.Goals as goal
 

@@ -1,11 +1,11 @@
-use Rattle.std.proofs.Common.{◌≡◌, ℕ, ◌/◌, ◌^◌, ◌<◌, ◌≤◌, Bool, true, false, ◌≢◌, List, sym, refl, ap, ◌∙◌, inl, inr, arith, pow_mono}
+use Rattle.std.proofs.Common.{◌≡◌, ℕ, ◌/◌, ◌^◌, ◌≤◌, Bool, true, false, ◌≢◌, sym, refl, ap, ◌∙◌, inl, inr, arith, pow_mono}
 use native.Mathlib.Nat.{div-le_of_le-mul}
 use mir.Val.{bool_byte}
 use Rattle.std.proofs.lemmas.Nat.{le-div}
 use Rattle.std.proofs.lemmas.Bool.{cases_eq, both_ways}
 use Rattle.model.specs.Maps.{has}
-use Rattle.model.specs.Pages.{Page, cut}
-use Rattle.pages.specs.View.{page_view, filled, block_of, region}
+use Rattle.model.specs.Pages.{Page}
+use Rattle.pages.specs.View.{filled, block_of, region}
 use Rattle.pages.proofs.Bits.{Within, has_none, bit_same, bit_other}
 use Rattle.pages.proofs.Views.{take_page, cut_page}
 use Rattle.pages.proofs.entry.Entry.cut_for.Goals as goal

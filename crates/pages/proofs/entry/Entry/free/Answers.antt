@@ -1,5 +1,5 @@
-use Rattle.std.proofs.Common.{◌≡◌, ℕ, ◌-◌, ◌/◌, false, List, [], sym, ap, ◌∙◌, arith}
-use lib.Count.{ones, ones-le}
+use Rattle.std.proofs.Common.{◌≡◌, ℕ, ◌/◌, false, [], ap, ◌∙◌, arith}
+use lib.Count.{ones-le}
 use Rattle.pages.proofs.Views.{slots_used, slots_free}
 use Rattle.pages.proofs.entry.Entry.free.Goals as goal
 

@@ -1,9 +1,7 @@
-use Rattle.std.proofs.Common.{◌≡◌, ℕ, ◌-◌, ◌/◌, ◌≤◌, Bool, true, false, cond, not, ◌&&◌, List, [], sym, ap, ◌∙◌, arith}
-use lib.Count.{ones}
+use Rattle.std.proofs.Common.{Bool, cond, [], sym, ap, ◌∙◌, arith}
 use Rattle.std.proofs.lemmas.Bool.{and_from}
 use Rattle.model.specs.Pages.{Page, in_class, free}
 use Rattle.pages.specs.View.{page_view}
-use Rattle.pages.proofs.Views.{slots_free}
 use Rattle.pages.proofs.entry.Entry.free_if.Goals as goal
 
 pub returns-then-counted : goal.returns-then-counted

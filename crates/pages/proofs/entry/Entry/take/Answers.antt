@@ -1,4 +1,4 @@
-use Rattle.std.proofs.Common.{◌≡◌, ℕ, ◌/◌, ◌^◌, ◌<◌, ◌≤◌, true, false, ◌≢◌, sym, refl, ap, ◌∙◌, subst, arith}
+use Rattle.std.proofs.Common.{◌≡◌, ℕ, ◌/◌, ◌^◌, ◌<◌, true, ◌≢◌, sym, refl, ap, ◌∙◌, subst, arith}
 use Rattle.model.specs.Maps.{has, with_flag_set}
 use Rattle.pages.specs.declared.entry.Entry.{Entry}
 use Rattle.pages.proofs.Bits.{Within, within_with, within_both, within_off, more_below, has_more_same, has_more_other, some_flag}

@@ -1,4 +1,4 @@
-use Rattle.std.proofs.Common.{◌≡◌, ℕ, ◌<◌, ◌≤◌, Bool, leb, Some, None, sym, refl, ap, ◌∙◌, subst, arith}
+use Rattle.std.proofs.Common.{◌≡◌, ℕ, ◌<◌, leb, Some, None, refl, subst, arith}
 use Rattle.model.specs.Classes.{fitting}
 use Rattle.pages.specs.Entries.{pages_of, Taken}
 use Rattle.pages.proofs.Sizes.{sized}

@@ -1,4 +1,4 @@
-use Rattle.std.proofs.Common.{◌≡◌, ℕ, ◌+◌, ◌<◌, ◌≤◌, Bool, cond, not, ◌&&◌, eqb, List, [], length, get_or, drop, sym, ap, ◌∙◌, arith}
+use Rattle.std.proofs.Common.{◌≡◌, ℕ, cond, not, ◌&&◌, eqb, [], get_or, sym, ap, ◌∙◌, arith}
 use Rattle.model.specs.Pages.{Page, page_at, in_class, free}
 use Rattle.pages.specs.Entries.{pages_of}
 use Rattle.pages.proofs.Pages.{pages_long, page_item, free_step, free_end}

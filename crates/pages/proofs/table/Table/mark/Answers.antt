@@ -1,5 +1,5 @@
-use Rattle.std.proofs.Common.{◌≡◌, ℕ, List, [], get_or, sym, refl, ap, ◌∙◌, arith}
-use Rattle.pages.specs.Entries.{mark_slot, entry_at, entry_view}
+use Rattle.std.proofs.Common.{sym}
+use Rattle.pages.specs.Entries.{mark_slot, entry_at}
 use Rattle.pages.proofs.Pages.{unchanged, kept, slot_past, unmarked_slot}
 use Rattle.pages.proofs.table.Table.mark.Goals as goal
 

@@ -1,4 +1,4 @@
-use Rattle.std.proofs.Common.{◌≡◌, ℕ, true, length, get_or, sym, refl, ap, ◌∙◌, subst, arith}
+use Rattle.std.proofs.Common.{◌≡◌, ℕ, true, length, get_or, sym, ap, ◌∙◌, arith}
 use Rattle.model.specs.Maps.{has}
 use Rattle.pages.specs.declared.entry.Entry.{Entry}
 use Rattle.pages.specs.Entries.{mark_slot, entry_at}

@@ -1,4 +1,4 @@
-use Rattle.std.proofs.Common.{◌≡◌, refl}
+use Rattle.std.proofs.Common.{refl}
 use Rattle.pages.proofs.Pages.{all_uncut, none_held}
 use Rattle.pages.proofs.table.Table.new.Goals as goal
 

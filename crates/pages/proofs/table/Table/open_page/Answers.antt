@@ -1,5 +1,5 @@
-use Rattle.std.proofs.Common.{◌≡◌, ℕ, ◌+◌, ◌<◌, Bool, true, false, cond, List, [], length, get_or, drop, Some, None, sym, refl, ap, ◌∙◌, arith}
-use Rattle.model.specs.Pages.{Page, uncut, page_at, first_page}
+use Rattle.std.proofs.Common.{◌≡◌, ℕ, ◌+◌, ◌<◌, Bool, true, false, cond, List, [], get_or, drop, Some, sym, ap, ◌∙◌, arith}
+use Rattle.model.specs.Pages.{uncut, page_at, first_page}
 use Rattle.pages.specs.declared.entry.Entry.{Entry}
 use Rattle.pages.specs.Entries.{pages_of, entry_view, Full}
 use Rattle.pages.proofs.Pages.{pages_long, page_is, first_step, first_end}

@@ -1,4 +1,4 @@
-use Rattle.std.proofs.Common.{◌≡◌, ℕ, ◌/◌, ◌<◌, false, List, [], length, get_or, sym, refl, ap, ◌∙◌, subst, arith}
+use Rattle.std.proofs.Common.{◌≡◌, ℕ, ◌/◌, ◌<◌, false, List, [], length, get_or, sym, ap, ◌∙◌, subst, arith}
 use Rattle.model.specs.Maps.{has}
 use Rattle.model.specs.Pages.{lowest_free}
 use Rattle.pages.specs.declared.entry.Entry.{Entry}

@@ -1,4 +1,4 @@
-use Rattle.std.proofs.Common.{◌≡◌, ℕ, sym, refl}
+use Rattle.std.proofs.Common.{ℕ, sym, refl}
 use Rattle.pages.specs.Entries.{pages_of}
 use Rattle.pages.proofs.Choices.{target_law, target_none}
 use Rattle.pages.proofs.Taking.{bare, takes_room}

@@ -1,8 +1,8 @@
-use Rattle.std.proofs.Common.{◌≡◌, ℕ, ◌+◌, ◌<◌, Bool, ◌&&◌, ltb, List, [], length, get_or, set, Some, None, sym, refl, ap, ◌∙◌, ap₂, inl, inr, arith, length-set, get_or-set_other, get_or-set_same}
+use Rattle.std.proofs.Common.{◌≡◌, ℕ, Bool, ◌&&◌, ltb, List, [], get_or, set, None, sym, refl, ap, ◌∙◌, ap₂, inl, inr, arith, length-set, get_or-set_other, get_or-set_same}
 use Rattle.std.proofs.lemmas.Bool.{cases_eq}
 use Rattle.model.specs.Pages.{Page, page_at, in_class, free}
 use Rattle.pages.specs.declared.entry.Entry.{Entry}
-use Rattle.pages.specs.Entries.{pages_of, entry_view}
+use Rattle.pages.specs.Entries.{pages_of}
 use Rattle.pages.specs.Choices.{candidate_of}
 use Rattle.pages.proofs.Pages.{pages_long, page_item}
 use Rattle.pages.proofs.Least.{least_row}

@@ -1,6 +1,5 @@
-use Rattle.std.proofs.Common.{◌≡◌, ℕ, ◌<◌, not, ◌&&◌, ltb, List, length, get_or, Some, None}
-use Rattle.model.specs.Maps.{has}
-use Rattle.model.specs.Pages.{page_at, in_class, free, occupied}
+use Rattle.std.proofs.Common.{◌≡◌, ℕ, ◌<◌, ◌&&◌, ltb, List, length, get_or, None}
+use Rattle.model.specs.Pages.{page_at, in_class, free}
 use Rattle.pages.specs.Entries.{pages_of, Full}
 use Rattle.pages.specs.Choices.{candidate_of, LowRow}
 use Rattle.pages.proofs.table.Table.target.Given as goal

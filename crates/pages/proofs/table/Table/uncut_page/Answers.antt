@@ -1,8 +1,7 @@
-use Rattle.std.proofs.Common.{◌≡◌, ℕ, ◌+◌, ◌<◌, Bool, true, false, cond, eqb, List, [], length, get_or, drop, Some, None, sym, refl, ap, ◌∙◌, arith}
+use Rattle.std.proofs.Common.{ℕ, ◌+◌, Bool, cond, get_or, drop, Some, sym, ap, ◌∙◌, arith}
 use Rattle.std.proofs.lemmas.Bool.{eq-eqb, ne_eqb}
-use Rattle.model.specs.Pages.{Page, uncut, page_at, first_page, is_uncut}
-use Rattle.pages.specs.declared.entry.Entry.{Entry}
-use Rattle.pages.specs.Entries.{pages_of, entry_view, Full}
+use Rattle.model.specs.Pages.{first_page, is_uncut}
+use Rattle.pages.specs.Entries.{pages_of}
 use Rattle.pages.proofs.Pages.{pages_long, first_step, first_end, uncut_entry}
 use Rattle.pages.proofs.table.Table.uncut_page.Goals as goal
 

@@ -1,5 +1,5 @@
-use Rattle.std.proofs.Common.{◌≡◌, ℕ, ◌+◌, ◌<◌, ◌≤◌, Bool, true, false, cond, eqb, List, [], length, get_or, drop, sym, ap, ◌∙◌, arith}
-use Rattle.model.specs.Pages.{Page, page_at, is_uncut}
+use Rattle.std.proofs.Common.{◌≡◌, ℕ, ◌≤◌, Bool, true, false, cond, eqb, get_or, ap, arith}
+use Rattle.model.specs.Pages.{page_at, is_uncut}
 use Rattle.pages.specs.Entries.{pages_of}
 use Rattle.pages.proofs.Pages.{pages_long, uncut_entry, pages_step, pages_end}
 use Rattle.pages.proofs.table.Table.uncut_pages.Goals as goal
