@@ -18,23 +18,22 @@ IN_FUNCTION = {
     1: [
         ("hands on", r"None => (None|return None|Err\(|0\b|\(0, 0\)|false|true|64)|Err\((\w+)\) => Err\(\2\)|Some\((\w+)\) => (Ok|Some)\("),
         ("else None", r"else \{ None \}|^\s+None$"),
-        ("test, then a refusal", r"return (Ok\()?Err\("),
-        ("numbers for kinds", r"\d+ => \"|\bkind < \d|number\(\) == |== 4_294_967_295"),
+        ("test, then an error or none", r"return (Ok\()?Err\(|return None\b"),
+        ("numbers for kinds", r"\d+ => \"|\bkind < \d|number\(\) == |== (4_294_967_295|u32::MAX)"),
     ],
     3: [
         ("index loop", r"for \w+ in .*\.\."),
         ("counted beside", r"for \(_?\w+, \w+\) in .*\.enumerate\(\)"),
         ("while", r"\bwhile "),
-        ("counts by hand", r"\b(k|n|alike|serial) (\+= |= serial)"),
         ("loop over items that folds, copies or pushes", r"for \w+ in &?\w+ \{"),
     ],
     4: [
         ("order by hand", r"fn precedes"),
         ("equality by hand", r"fn same_key|\(None, None\) => true"),
-        ("conversion by hand", r"Refusal::\w+ => \d+,|=> Ok\(Answer::|\b(references|words|marked) as u64|\bnext as u32|more as u32|\(\) as u8|if counts \{ 1 \} else \{ 0 \}"),
+        ("conversion by hand", r"Refusal::\w+ => \d+,|\) => Ok\(Answer::|Ok\(_\) => Ok\(Answer::|\b\w+ as u64|\bnext as u32|more as u32|\(\) as u8|- b'0'|if counts \{ 1 \} else \{ 0 \}"),
         ("printing by hand", r"b'0' \+ "),
     ],
-    7: [("a flag picks what is computed", r"fn \w+.*\b(current|counts|counted|barred): bool")],
+    7: [("a flag among the parameters", r"fn \w+.*\b\w+: bool[,)]")],
 }
 # what a point looks for in the head of a function: the comment above it and its signature
 IN_HEAD = {

@@ -28,20 +28,19 @@ impl Generator {
 
     fn draw_change(&mut self) -> Change {
         let place = self.draw_place();
-        let kind = self.draw() % 8;
-        if kind < 4 {
-            let time = self.draw() % 16;
-            let serial = self.draw() % 4;
-            return Change::KeyPlace {
-                place,
-                key: Key { time, serial },
-            };
+        match self.draw() % 8 {
+            0..=3 => {
+                let time = self.draw() % 16;
+                let serial = self.draw() % 4;
+                let key = Key { time, serial };
+                Change::KeyPlace { place, key }
+            }
+            4..=6 => Change::Unkey { place },
+            _ => {
+                let number = self.draw();
+                Change::Put { place, number }
+            }
         }
-        if kind < 7 {
-            return Change::Unkey { place };
-        }
-        let number = self.draw();
-        Change::Put { place, number }
     }
 }
 
@@ -56,31 +55,15 @@ fn apply<A: Agenda>(agenda: &mut A, change: Change)
     }
 }
 
-fn same_key(one: Option<Key>, other: Option<Key>) -> bool
-    ensures { Decides result (one ≡ other) }
-{
-    match (one, other) {
-        (None, None) => true,
-        (Some(a), Some(b)) => a.time == b.time && a.serial == b.serial,
-        _ => false,
-    }
-}
-
 // Whether two agendas answer alike which place is first, which is spare, and what a place holds and bears.
 fn answer_alike<A: Agenda, B: Agenda>(one: &A, other: &B, place: u32) -> bool
     ensures { Decides result (SameAnswers (A.Holder.row one.now) (A.Agenda.keys one.now)
         (B.Holder.row other.now) (B.Agenda.keys other.now) place) }
 {
-    if one.first() != other.first() {
-        return false;
-    }
-    if one.spare() != other.spare() {
-        return false;
-    }
-    if one.get(place) != other.get(place) {
-        return false;
-    }
-    same_key(one.key(place), other.key(place))
+    one.first() == other.first()
+        && one.spare() == other.spare()
+        && one.get(place) == other.get(place)
+        && one.key(place) == other.key(place)
 }
 
 // In how many of the rounds, each a change and then questions, the two agendas answer alike.
@@ -91,6 +74,7 @@ pub(crate) fn rounds_alike(rounds: u32) -> u32
     let mut ordered = OrderedAgenda::new();
     let mut generator = Generator { state: 1 };
     let mut alike: u32 = 0;
+    // no chain, since each round changes the generator and both agendas
     for _ in 0..rounds {
         let change = generator.draw_change();
         apply(&mut table, change);

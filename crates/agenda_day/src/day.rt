@@ -7,88 +7,74 @@ use std::io;
 
 #[derive(Clone, Copy)]
 struct Event {
-    hour: u32,
-    minute: u32,
-    number: u32,
+    hour: u8,
+    minute: u8,
+    what: &'static str,
 }
 
 const EVENTS: [Event; 8] = [
     Event {
         hour: 14,
         minute: 30,
-        number: 1,
+        what: "the freighter sails",
     },
     Event {
         hour: 6,
         minute: 15,
-        number: 2,
+        what: "the first crane is manned",
     },
     Event {
         hour: 9,
         minute: 0,
-        number: 3,
+        what: "the freighter moors",
     },
     Event {
         hour: 9,
         minute: 0,
-        number: 4,
+        what: "the ferry moors",
     },
     Event {
         hour: 22,
         minute: 45,
-        number: 5,
+        what: "the lights go out",
     },
     Event {
         hour: 6,
         minute: 0,
-        number: 6,
+        what: "the gate opens",
     },
     Event {
         hour: 12,
         minute: 20,
-        number: 7,
+        what: "the ferry sails",
     },
     Event {
         hour: 9,
         minute: 0,
-        number: 8,
+        what: "the customs office opens",
     },
 ];
 
-fn describe(number: u32) -> &'static str {
-    match number {
-        1 => "the freighter sails",
-        2 => "the first crane is manned",
-        3 => "the freighter moors",
-        4 => "the ferry moors",
-        5 => "the lights go out",
-        6 => "the gate opens",
-        7 => "the ferry sails",
-        8 => "the customs office opens",
-        _ => "nothing",
-    }
-}
-
-// Notes an event in the lowest spare place; of equal times, what is noted first comes first.
-fn note(agenda: &mut OrderedAgenda, event: Event, serial: u32) {
+// Notes an event by its number in the table, in the lowest spare place; of equal times, what is noted first comes first.
+fn note(agenda: &mut OrderedAgenda, number: u32, event: Event) {
     let place = agenda.spare();
-    agenda.write(place, event.number);
+    let time = u32::from(event.hour) * 60 + u32::from(event.minute);
+    agenda.write(place, number);
     agenda.key_place(
         place,
         Key {
-            time: event.hour.saturating_mul(60).saturating_add(event.minute),
-            serial,
+            time,
+            serial: number,
         },
     );
 }
 
 pub(crate) fn show_day(rt: &impl Print) -> io::Result<()> {
     let mut agenda = OrderedAgenda::new();
-    let mut serial: u32 = 0;
-    for event in EVENTS {
-        note(&mut agenda, event, serial);
-        serial = serial.saturating_add(1);
+    for (number, event) in (0u32..).zip(EVENTS) {
+        note(&mut agenda, number, event);
     }
+    // until no event is left; the range says that the loop ends
     for _ in 0..OrderedAgenda::count() {
         let place = agenda.first();
         let Some(key) = agenda.key(place) else {
@@ -96,7 +82,9 @@ pub(crate) fn show_day(rt: &impl Print) -> io::Result<()> {
         };
         let hour = key.time / 60;
         let minute = key.time % 60;
-        let what = describe(agenda.get(place));
+        let what = EVENTS
+            .get(agenda.get(place) as usize)
+            .map_or("nothing", |event| event.what);
         println!(rt; "{hour:02}:{minute:02} {what}")?;
         agenda.unkey(place);
     }

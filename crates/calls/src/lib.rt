@@ -4,8 +4,6 @@
 ghost use Rattle.std.specs.Prelude.{◌≡◌};
 ghost use Rattle.calls.specs.Numbers.{letter_of, number_of};
 
-pub mod results;
-
 // The fourteen calls. Places, references, words and units are counted from 0; a place is one of the holder's.
 #[derive(Clone, Copy)]
 pub enum Call {
@@ -104,19 +102,19 @@ pub enum Answer {
 // Why a call is refused, in the order in which the conditions count.
 #[derive(Clone, Copy)]
 pub enum Refusal {
-    NoSuchPlace,
-    TooLarge,
-    NoCall,
-    Nil,
-    NoSuchReference,
-    NoSuchWord,
-    NoRoom,
-    AgendaFull,
-    TimePassed,
-    SerialsUsedUp,
-    NoEvent,
-    CollectionRuns,
-    NoCollection,
+    NoSuchPlace = 1,
+    TooLarge = 2,
+    NoCall = 3,
+    Nil = 11,
+    NoSuchReference = 12,
+    NoSuchWord = 13,
+    NoRoom = 14,
+    AgendaFull = 15,
+    TimePassed = 16,
+    SerialsUsedUp = 17,
+    NoEvent = 18,
+    CollectionRuns = 19,
+    NoCollection = 20,
 }
 
 impl Call {
@@ -148,20 +146,6 @@ impl Refusal {
     pub fn number(&self) -> u32
         ensures { result ≡ number_of self.now }
     {
-        match self {
-            Refusal::NoSuchPlace => 1,
-            Refusal::TooLarge => 2,
-            Refusal::NoCall => 3,
-            Refusal::Nil => 11,
-            Refusal::NoSuchReference => 12,
-            Refusal::NoSuchWord => 13,
-            Refusal::NoRoom => 14,
-            Refusal::AgendaFull => 15,
-            Refusal::TimePassed => 16,
-            Refusal::SerialsUsedUp => 17,
-            Refusal::NoEvent => 18,
-            Refusal::CollectionRuns => 19,
-            Refusal::NoCollection => 20,
-        }
+        *self as u32
     }
 }

@@ -1,7 +1,6 @@
 -- What a write that keeps forms and marks leaves of the numbers.
-use Rattle.std.proofs.Common.{◌≡◌, ℕ, ◌+◌, ◌-◌, ◌*◌, ◌<◌, Bool, cond, ◌&&◌, eqb, ltb, List, length, get_or, set, Some, None, Option, sym, refl, ap, ◌∙◌, subst, ap₂, inl, inr, arith, get_or-set_other, get_or-set_same}
+use Rattle.std.proofs.Common.{◌≡◌, ℕ, ◌+◌, ◌-◌, ◌*◌, ◌<◌, Bool, cond, eqb, List, length, get_or, set, Some, None, Option, sym, refl, ap, ◌∙◌, subst, ap₂, inl, inr, arith, get_or-set_other, get_or-set_same}
 use Rattle.std.proofs.lemmas.Bool.{cases_eq}
-use Rattle.model.specs.Classes.{sizes}
 use Rattle.model.specs.Pages.{Block, Page, uncut, page_of, slot_of, page_at, block_at, put_block, with_slots}
 use Rattle.model.specs.Units.{with_refs}
 use Rattle.model.specs.Calls.{with_word}
@@ -10,7 +9,7 @@ use Rattle.heap.specs.View.{write_word, write_word_in}
 use Rattle.collector.specs.declared.phase.Phase.{Phase}
 use Rattle.collector.specs.declared.phase.Phase.TheVariants.{Idle, Roots, Marking, Sweeping, Moving}
 use Rattle.collector.specs.Counts.{sum_of, slot_white, white, page_spent, spent, stays, slot_stays}
-use Rattle.collector.specs.Sound.{left, pressed, at_hand, source, placed}
+use Rattle.collector.specs.Sound.{left, pressed, at_hand, Source, Placed}
 use Rattle.collector.proofs.Sums.{sum_set, some_within, block_slot, page_within, put_sum}
 
 pub record SamePage (g : ℕ) (p q : Page) : Type 0 where
@@ -31,10 +30,9 @@ module _ (ps qs : List Page) (k : Keeps ps qs) where
   keep_hand None = refl
   keep_hand (Some g) = ap (λ (x : ℕ). 1 + x) (k.pages g).stay
 
-  keep_source : (c : ℕ) (s : Option ℕ) → source c s qs ≡ source c s ps
-  keep_source c None = refl
-  keep_source c (Some g) =
-      ap₂ (λ (x : Bool) (y : ℕ). ltb g 64 && (x && eqb y (get_or sizes c 0))) (k.pages g).closed (k.pages g).size
+  keep_source : (c : ℕ) (s : Option ℕ) → Source c s ps → Source c s qs
+  keep_source c None p = tt
+  keep_source c (Some g) p = (p.0, (k.pages g).closed ∙ p.1, (k.pages g).size ∙ p.2)
 
   pub keep_left : (ph : Phase) (t : ℕ) → left ph qs t ≡ left ph ps t
   keep_left Idle t = refl
@@ -50,12 +48,12 @@ module _ (ps qs : List Page) (k : Keeps ps qs) where
   keep_pressed (Sweeping g) t = refl
   keep_pressed (Moving c s) t = refl
 
-  pub keep_placed : (ph : Phase) → placed ph qs ≡ placed ph ps
-  keep_placed Idle = refl
-  keep_placed (Roots i) = refl
-  keep_placed Marking = refl
-  keep_placed (Sweeping g) = refl
-  keep_placed (Moving c s) = ap (λ (b : Bool). ltb c 20 && b) (keep_source c s)
+  pub keep_placed : (ph : Phase) → Placed ph ps → Placed ph qs
+  keep_placed Idle p = tt
+  keep_placed (Roots i) p = p
+  keep_placed Marking p = tt
+  keep_placed (Sweeping g) p = p
+  keep_placed (Moving c s) p = (p.0, keep_source c s p.1)
 
 pub keeps_same : (ps : List Page) → Keeps ps ps
 keeps_same ps = record { whites = refl; spends = λ k. refl; pages = λ g. same_page g (page_at ps g) (page_at ps g) refl }

@@ -1,5 +1,6 @@
 pub mod Sums
 pub mod Sounds
+pub mod Phases
 pub mod Keeps
 pub mod Scans
 pub mod Moves

@@ -15,11 +15,10 @@ use Rattle.heap.proofs.Views.{long, few_slots}
 use Rattle.collector.specs.declared.phase.Phase.{Phase}
 use Rattle.collector.specs.declared.phase.Phase.TheVariants.{Idle, Roots, Marking, Sweeping, Moving}
 use Rattle.collector.specs.Counts.{sum_of, slot_white, page_white, white, page_spent, spent, stays}
-use Rattle.collector.specs.Sound.{left, pressed, at_hand, Source, Placed, placed}
+use Rattle.collector.specs.Sound.{left, pressed, at_hand, Source, Placed}
 use Rattle.collector.specs.Making.{Sized, Free, Roomy, place_number, placed_in}
 use Rattle.collector.specs.View.{stage, new_heap}
 use Rattle.collector.proofs.Sums.{sum_set, put_sum}
-use Rattle.collector.proofs.Sounds.{placed_out as sited-out}
 use Rattle.collector.proofs.Moves.{sizes_four, spent_set, put_spent, put_there, room_left, opened}
 
 -- ---- the page is made ready
@@ -279,7 +278,7 @@ module _ (h : Blocks) (r d from targets t : ℕ) (ph : Phase) (marks : (g : ℕ)
   pub record Harmless (qs : List Page) : Type 0 where
     pub lefts : left ph qs t ≤ left ph (view h) t
     pub presses : pressed ph qs t ≤ pressed ph (view h) t
-    pub places : placed ph qs ≡ true
+    pub places : Placed ph qs
 
   in_page : (g size : ℕ) → size ≡ fitting (2 + r + d) → r + d ≤ 30 → page_to_take (view h) size ≡ Some g → (g < 64) × Harmless (placed_in (view h) size r d (leb from g) g)
   in_page g size is few e =
@@ -293,7 +292,7 @@ module _ (h : Blocks) (r d from targets t : ℕ) (ph : Phase) (marks : (g : ℕ)
         record {
           lefts = new_left (view h) size g n low rd r d (leb from g) f.1 s.least ph targets t pl (marks g low);
           presses = new_pressed (view h) size g n low rd r d (leb from g) f.1 s.least ph targets t (marks g low);
-          places = sited-out ph (placed_in (view h) size r d (leb from g) g) (new_placed (view h) size g n low rd r d (leb from g) f.1 s.least ph pl);
+          places = (new_placed (view h) size g n low rd r d (leb from g) f.1 s.least ph pl);
         },
       )
 
@@ -301,7 +300,7 @@ module _ (h : Blocks) (r d from targets t : ℕ) (ph : Phase) (marks : (g : ℕ)
   made_harmless = by (new_page (view h) r d) refl
     where
       by : (o : Option ℕ) → new_page (view h) r d ≡ o → Harmless (made o)
-      by None e = record { lefts = omega arith; presses = omega arith; places = sited-out ph (view h) pl }
+      by None e = record { lefts = omega arith; presses = omega arith; places = pl }
       by (Some g) e = let f = new_found (view h) r d g e in (in_page g (fitting (2 + r + d)) refl f.0 f.1).1
 
   pub made_heap : (k : Heap) → k.pages ≡ view h → k.phase ≡ stage ph targets → with_pages k (new_pages (view h) r d from) ≡ new_heap k r d

@@ -1,12 +1,12 @@
 -- Laws of the moving phase.
-use Rattle.std.proofs.Common.{◌≡◌, ℕ, zero, suc, ◌+◌, ◌-◌, ◌<◌, ◌≤◌, Bool, true, false, cond, not, ◌&&◌, ◌||◌, eqb, ltb, leb, List, [], ◌∷◌, length, get_or, set, is_some, Some, None, Option, sym, refl, ap, ◌∙◌, subst, ap₂, arith, length-set, get_or-set_other, get_or-set_same}
-use Rattle.std.proofs.lemmas.Bool.{leb-true, and_right, both_ways, and_parts, and_from, eqb-true, eq-eqb, ne_eqb, ltb-true, lt-ltb, le-ltb}
+use Rattle.std.proofs.Common.{◌≡◌, ℕ, zero, suc, ◌+◌, ◌-◌, ◌<◌, ◌≤◌, Bool, true, false, cond, not, ◌&&◌, ◌||◌, eqb, ltb, leb, List, [], ◌∷◌, length, get_or, set, Some, None, Option, sym, refl, ap, ◌∙◌, subst, ap₂, arith, length-set, get_or-set_other, get_or-set_same}
+use Rattle.std.proofs.lemmas.Bool.{leb-true, and_right, both_ways, and_parts, eqb-true, eq-eqb, ne_eqb, ltb-true, lt-ltb, le-ltb}
 use Rattle.std.proofs.lemmas.List.{get_or_default}
 use Rattle.model.specs.Classes.{sizes}
 use Rattle.model.specs.Maps.{has}
 use Rattle.model.specs.Pages.{Block, Page, uncut, number, page_of, slot_of, page_at, block_at, put_block, with_slots, with_closed, in_class, free, occupied, lowest_free}
-use Rattle.model.specs.State.{Heap, idle, moving, with_pages, with_phase}
-use Rattle.model.specs.Units.{least_page, source_page, target_page, is_current_block, lowest_current_block, with_forward, class_done, close_page, choose_source, free_of_class}
+use Rattle.model.specs.State.{idle, moving}
+use Rattle.model.specs.Units.{least_page, source_page, target_page, is_current_block, lowest_current_block, with_forward, close_page}
 use Rattle.pages.specs.Choices.{movable, source_of}
 use Rattle.pages.proofs.Least.{least_found}
 use Rattle.pages.proofs.Choices.{movable_is}
@@ -15,33 +15,12 @@ use Rattle.heap.specs.View.{view, target_of, target_number}
 use Rattle.heap.proofs.Views.{long, few_slots}
 use Rattle.collector.specs.declared.phase.Phase.TheVariants.{Idle, Moving}
 use Rattle.collector.specs.Counts.{sum_of, is_spent, page_spent, spent, stays, slot_stays}
-use Rattle.collector.specs.Sound.{left, pressed, placed}
+use Rattle.collector.specs.Sound.{left, pressed, Placed}
 use Rattle.collector.specs.Moving.{next_of}
 use Rattle.collector.specs.View.{stage}
 use Rattle.collector.proofs.Sums.{sum_set, sum_bound}
-use Rattle.collector.proofs.Sounds.{placed_in, placed_out}
 
 -- ---- the source
-
-pub choose_is : (h : Heap) (k targets : ℕ) (o : Option (ℕ × ℕ)) → movable (get_or sizes k 0) h.pages o ≡ None → class_done h k targets ≡ choose_source h k targets o
-choose_is h k targets None e = refl
-choose_is h k targets (Some x) e = by (leb x.0 (free_of_class (get_or sizes k 0) x.1 0 h.pages)) e
-  where
-    by : (t : Bool) → cond t (Some x.1) None ≡ None
-        → class_done h k targets ≡ cond t (with_phase (with_pages h (close_page h.pages x.1 true)) (moving k (Some x.1) targets)) (class_done h k targets)
-    by true q = let z : ◌≡◌ {A = ℕ} 0 1 = cc in absurd (omega arith)
-    by false q = refl
-
-pub choose_some : (h : Heap) (k targets g : ℕ) (o : Option (ℕ × ℕ)) → movable (get_or sizes k 0) h.pages o ≡ Some g
-    → with_phase (with_pages h (close_page h.pages g true)) (moving k (Some g) targets) ≡ choose_source h k targets o
-choose_some h k targets g None e = let z : ◌≡◌ {A = ℕ} 0 1 = cc in absurd (omega arith)
-choose_some h k targets g (Some x) e = by (leb x.0 (free_of_class (get_or sizes k 0) x.1 0 h.pages)) e
-  where
-    by : (t : Bool) → cond t (Some x.1) None ≡ Some g
-        → with_phase (with_pages h (close_page h.pages g true)) (moving k (Some g) targets)
-        ≡ cond t (with_phase (with_pages h (close_page h.pages x.1 true)) (moving k (Some x.1) targets)) (class_done h k targets)
-    by true q = let r : g ≡ x.1 = cc in ap (λ (y : ℕ). with_phase (with_pages h (close_page h.pages y true)) (moving k (Some y) targets)) r
-    by false q = let z : ◌≡◌ {A = ℕ} 0 1 = cc in absurd (omega arith)
 
 -- a page of the class that is open
 pub record Open (size : ℕ) (p : Page) : Type 0 where
@@ -166,10 +145,10 @@ choose_left h a k g t l low o e =
     omega arith
 
 pub closed_placed : (ps qs : List Page) (k g : ℕ) → length ps ≡ 64 → k < 20 → g < 64 → Open (get_or sizes k 0) (page_at ps g) → qs ≡ close_page ps g true
-    → placed (Moving k (Some g)) qs ≡ true
+    → Placed (Moving k (Some g)) qs
 closed_placed ps qs k g n l low o e =
     let p : page_at qs g ≡ with_closed (page_at ps g) true = ap (λ (x : List Page). page_at x g) e ∙ get_or-set_same ps g (with_closed (page_at ps g) true) uncut (omega arith) in
-    placed_out (Moving k (Some g)) qs (l, (low, ap (λ (x : Page). x.closed) p, ap (λ (x : Page). x.size) p ∙ o.size_is))
+    (l, (low, ap (λ (x : Page). x.closed) p, ap (λ (x : Page). x.size) p ∙ o.size_is))
 
 pub done_left : (ps qs : List Page) (k t : ℕ) (s : Option ℕ) → k < 20 → spent k ps ≤ spent (suc k) qs + 1 → left (next_of k) qs t < left (Moving k s) ps t
 done_left ps qs k t s l e = by (ltb (suc k) 20)
@@ -185,12 +164,12 @@ done_pressed ps k t = by (ltb (suc k) 20)
     by true = refl
     by false = refl
 
-pub done_placed : (ps : List Page) (k : ℕ) → placed (next_of k) ps ≡ true
+pub done_placed : (ps : List Page) (k : ℕ) → Placed (next_of k) ps
 done_placed ps k = by (ltb (suc k) 20) refl
   where
-    by : (b : Bool) → ltb (suc k) 20 ≡ b → placed (cond b (Moving (suc k) None) Idle) ps ≡ true
-    by true e = and_from (ltb (suc k) 20) true e refl
-    by false e = refl
+    by : (b : Bool) → ltb (suc k) 20 ≡ b → Placed (cond b (Moving (suc k) None) Idle) ps
+    by true e = (ltb-true (suc k) 20 e, tt)
+    by false e = tt
 
 pub done_stage : (k targets : ℕ) → stage (next_of k) targets ≡ cond (ltb (suc k) 20) (moving (suc k) None targets) idle
 done_stage k targets = by (ltb (suc k) 20)
@@ -254,9 +233,6 @@ block_there ps g s l m =
     ap (λ (b : Bool). cond b None (get_or (page_at ps (page_of (number g s))).slots (slot_of (number g s)) None)) (ne_eqb (number g s) 0 (λ q. omega arith))
     ∙ ap₂ (λ (i j : ℕ). get_or (page_at ps i).slots j None) x y
     ∙ m.slot
-
-pub some_there : (o : Option Block) (b : Block) → o ≡ Some b → is_some o ≡ true
-some_there o b e = ap is_some e
 
 pub room_left : {A : Type 0} (xs : List (Option A)) → 0 < length xs - occupied xs → lowest_free xs < length xs
 room_left [] h = absurd (omega arith)
@@ -352,11 +328,10 @@ module _ (ps : List Page) (n : length ps ≡ 64) (g s t z : ℕ) (gl : g < 64) (
       let w = end_stays in
       omega arith
 
-  pub moved_placed : (k : ℕ) (qs : List Page) → qs ≡ end → placed (Moving k (Some g)) ps ≡ true → placed (Moving k (Some g)) qs ≡ true
-  moved_placed k qs e p =
-      let a = placed_in (Moving k (Some g)) ps p in
+  pub moved_placed : (k : ℕ) (qs : List Page) → qs ≡ end → Placed (Moving k (Some g)) ps → Placed (Moving k (Some g)) qs
+  moved_placed k qs e a =
       let c = ap (λ (xs : List Page). page_at xs g) e ∙ end_at in
-      placed_out (Moving k (Some g)) qs (a.0, (a.1.0, ap (λ (x : Page). x.closed) c ∙ a.1.1, ap (λ (x : Page). x.size) c ∙ a.1.2))
+      (a.0, (a.1.0, ap (λ (x : Page). x.closed) c ∙ a.1.1, ap (λ (x : Page). x.size) c ∙ a.1.2))
 
 -- ---- the choices of the pages
 

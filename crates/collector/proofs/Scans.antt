@@ -1,13 +1,16 @@
 -- A scan, reference by reference.
-use Rattle.std.proofs.Common.{◌≡◌, ℕ, suc, ◌+◌, ◌<◌, ◌≤◌, Bool, true, false, cond, eqb, ◌⊎◌, List, ◌∷◌, length, get_or, drop, set, Some, None, Option, sym, refl, ap, ◌∙◌, ap₂, inl, inr, add-one, arith, length-set, get_or-set_other, get_or-set_same, drop-set-lt}
+use Rattle.std.proofs.Common.{◌≡◌, ℕ, zero, suc, ◌+◌, ◌<◌, ◌≤◌, Bool, true, false, cond, eqb, ◌⊎◌, List, [], ◌∷◌, length, get_or, drop, set, slice_get, Some, None, Option, sym, refl, ap, ◌∙◌, ap₂, inl, inr, add-one, arith, length-set, get_or-set_other, get_or-set_same, drop-set-lt}
 use Rattle.std.proofs.lemmas.Bool.{cases_eq, cases_Bool}
-use Rattle.std.proofs.lemmas.List.{at_drop_more, at_drop_all}
+use Rattle.std.proofs.lemmas.List.{at_drop_more, get_or_past, set_past, set-get_or}
 use Rattle.model.specs.Pages.{Block, Page, uncut, page_of, slot_of, page_at, block_at, put_block, with_slots, current, refs_of}
-use Rattle.model.specs.State.{Heap, with_pages}
+use Rattle.model.specs.State.{Heap, Phase, idle, roots, marking, sweeping, moving, with_pages}
 use Rattle.model.specs.Units.{grey, marked_block, with_refs, scan}
+use Rattle.model.specs.Making.{barrier, barrier_in}
+use Rattle.model.specs.Calls.{alter}
 use Rattle.heap.specs.Blocks.{write_ref, write_ref_in, mark_in}
 use Rattle.heap.specs.View.{white_of}
-use Rattle.collector.specs.View.{rescan_at}
+use Rattle.collector.specs.Tracing.{rescan_at}
+use Rattle.collector.specs.View.{stored_in}
 use Rattle.collector.proofs.Sums.{some_within, block_slot, page_within}
 use Rattle.collector.proofs.Sounds.{grey_white, grey_not}
 
@@ -85,7 +88,54 @@ module _ {A : Type 0} (F : Option Block → A) where
       grey_through marks (with_pages h (write_ref h.pages n f (current h.pages r))) r m
       ∙ write_through h.pages n f (current h.pages r) m (λ b. writes b (current h.pages r))
 
--- one reference
+-- ---- a reference that is not there
+
+past : (xs : List ℕ) (i : ℕ) → None ≡ slice_get xs i → length xs ≤ i
+past [] i e = omega arith
+past (x ∷ xs) zero e = absurd (cc)
+past (x ∷ xs) (suc i) e = let l = past xs i e in omega arith
+
+pub there : (xs : List ℕ) (i x : ℕ) → Some x ≡ slice_get xs i → get_or xs i 0 ≡ x
+there [] i x e = absurd (cc)
+there (y ∷ ys) zero x e = cc
+there (y ∷ ys) (suc i) x e = there ys i x e
+
+pub index_past : (xs : List ℕ) (i : ℕ) → None ≡ slice_get xs i → get_or xs i 0 ≡ 0
+index_past xs i e = get_or_past xs i 0 (past xs i e)
+
+put_same : (ps : List Page) (n : ℕ) (b : Block) → block_at ps n ≡ Some b → put_block ps n b ≡ ps
+put_same ps n b is =
+    let P = page_at ps (page_of n) in
+    ap (λ (slots : List (Option Block)). set ps (page_of n) (with_slots P slots))
+    (ap (set P.slots (slot_of n)) (sym (block_slot ps n b is)) ∙ set-get_or P.slots (slot_of n) None)
+    ∙ set-get_or ps (page_of n) uncut
+
+-- a write to a reference that is not there changes nothing
+pub write_past : (ps : List Page) (n f v : ℕ) → None ≡ slice_get (refs_of (block_at ps n)) f → write_ref ps n f v ≡ ps
+write_past ps n f v e = by_block (block_at ps n) refl e
+  where
+    by_block : (o : Option Block) → block_at ps n ≡ o → None ≡ slice_get (refs_of o) f → write_ref_in ps n f v o ≡ ps
+    by_block None is q = refl
+    by_block (Some b) is q = ap (λ (rs : List ℕ). put_block ps n (with_refs b rs)) (set_past b.refs f v (past b.refs f q)) ∙ put_same ps n b is
+
+barrier_nil : (h : Heap) (ph : Phase) → barrier_in h 0 ph ≡ h
+barrier_nil h idle = refl
+barrier_nil h (roots i) = refl
+barrier_nil h marking = refl
+barrier_nil h (sweeping g) = refl
+barrier_nil h (moving k s targets) = refl
+
+pub stored_past : (h : Heap) (n f v : ℕ) → None ≡ slice_get (refs_of (block_at h.pages n)) f → stored_in h n f v ≡ h
+stored_past h n f v e =
+    ap (λ (k : Heap). alter k n (λ b. with_refs b (set b.refs f v)) (block_at k.pages n)) (ap (barrier h) (index_past (refs_of (block_at h.pages n)) f e) ∙ barrier_nil h h.phase)
+    ∙ altered (block_at h.pages n)
+    ∙ ap (with_pages h) (write_past h.pages n f v e)
+  where
+    altered : (o : Option Block) → alter h n (λ b. with_refs b (set b.refs f v)) o ≡ with_pages h (write_ref_in h.pages n f v o)
+    altered None = refl
+    altered (Some b) = refl
+
+-- ---- one reference
 some_refs : (o : Option Block) → 0 < length (refs_of o) → (b : Block) × (o ≡ Some b)
 some_refs None h = absurd (omega arith)
 some_refs (Some b) h = (b, refl)
@@ -112,6 +162,3 @@ pub scan_count : (h k : Heap) (n f r : ℕ) → k ≡ rescan_at h n f r → leng
 scan_count h k n f r e =
     ap (λ (x : Heap). length (refs_of (block_at x.pages n))) e
     ∙ rescan_through (λ (o : Option Block). length (refs_of o)) h n f r n (λ b. refl) (λ b v. length-set b.refs f v)
-
-pub scan_end : (h : Heap) (n f : ℕ) → length (refs_of (block_at h.pages n)) ≤ f → scan (drop f (refs_of (block_at h.pages n))) h n f ≡ h
-scan_end h n f l = at_drop_all (λ xs. scan xs h n f) (refs_of (block_at h.pages n)) f l

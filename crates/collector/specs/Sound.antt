@@ -1,5 +1,6 @@
 -- What holds of a collection under way, and how many units it can still take.
-use Rattle.std.specs.Prelude.{◌≡◌, ℕ, ◌+◌, ◌-◌, ◌*◌, ◌<◌, Bool, true, ◌&&◌, List, Some, None, Option, ◌==◌, nat_lt, slice_index}
+use Rattle.std.specs.Prelude.{◌≡◌, ℕ, ◌+◌, ◌-◌, ◌*◌, ◌<◌, true, List, Some, None, Option, slice_index}
+use denote.Struct.Props.{props}
 use Rattle.model.specs.Classes.{sizes}
 use Rattle.model.specs.Pages.{Page, page_at}
 use Rattle.collector.specs.declared.phase.Phase.{Phase}
@@ -38,6 +39,18 @@ Placed Marking ps = Unit {0}
 Placed (Sweeping g) ps = g < 64
 Placed (Moving k s) ps = (k < 20) × Source k s ps
 
+-- it holds in one way at most
+source_prop : (k : ℕ) (s : Option ℕ) (ps : List Page) → IsProp (Source k s ps)
+source_prop k None ps = Prim.hlevel props
+source_prop k (Some g) ps = Prim.hlevel props
+
+pub placed_prop : (ph : Phase) (ps : List Page) → IsProp (Placed ph ps)
+placed_prop Idle ps = Prim.hlevel props
+placed_prop (Roots i) ps = Prim.hlevel props
+placed_prop Marking ps = Prim.hlevel props
+placed_prop (Sweeping g) ps = Prim.hlevel props
+placed_prop (Moving k s) ps = Prim.hlevel (props, source_prop)
+
 -- in these phases blocks come onto the work list
 abbrev pub Greys : Phase → Type 0
 Greys Idle = ⊥
@@ -45,15 +58,3 @@ Greys (Roots i) = Unit {0}
 Greys Marking = Unit {0}
 Greys (Sweeping g) = ⊥
 Greys (Moving k s) = ⊥
-
--- the same as tests
-abbrev pub source : ℕ → Option ℕ → List Page → Bool
-source k None ps = true
-source k (Some g) ps = nat_lt g 64 && ((page_at ps g).closed && (page_at ps g).size == slice_index sizes k)
-
-abbrev pub placed : Phase → List Page → Bool
-placed Idle ps = true
-placed (Roots i) ps = nat_lt i 65536
-placed Marking ps = true
-placed (Sweeping g) ps = nat_lt g 64
-placed (Moving k s) ps = nat_lt k 20 && source k s ps

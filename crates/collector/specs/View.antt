@@ -1,18 +1,18 @@
 -- What a collector stands for, and what its calls make of that.
-use Rattle.std.specs.Prelude.{ℕ, zero, suc, ◌+◌, cond, List, [], ◌∷◌, Some, None, Option, nat_lt, slice_index, slice_set}
+use Rattle.std.specs.Prelude.{◌≡◌, ℕ, suc, ◌+◌, ◌<◌, cond, length, Some, None, Option, nat_lt, slice_index, slice_set}
 use Rattle.model.specs.Classes.{fitting}
-use Rattle.model.specs.Pages.{block_at, current, refs_of}
-use Rattle.model.specs.State.{Heap, idle, roots, marking, sweeping, moving, with_pages, with_phase}
+use Rattle.model.specs.Pages.{block_at, refs_of}
+use Rattle.model.specs.State.{Heap, idle, roots, marking, sweeping, moving, with_phase}
 use Rattle.model.specs.State.{Phase as Stage}
 use Rattle.model.specs.Units.{grey, with_refs, marking_unit, sweeping_unit, moving_unit, one_more}
 use Rattle.model.specs.Making.{barrier, with_new}
 use Rattle.model.specs.Calls.{alter, if_some}
-use Rattle.heap.specs.Blocks.{write_ref}
 use Rattle.heap.specs.View.{view, new_page}
 use Rattle.collector.specs.declared.phase.Phase.{Phase}
 use Rattle.collector.specs.declared.phase.Phase.TheVariants.{Idle, Roots, Marking, Sweeping, Moving}
 use Rattle.collector.specs.declared.collector.Collector.{Collector}
 use Rattle.collector.specs.Sound.{left}
+use Rattle.collector.specs.Tracing.{traced}
 
 abbrev pub stage : Phase → ℕ → Stage
 stage Idle targets = idle
@@ -21,24 +21,20 @@ stage Marking targets = marking
 stage (Sweeping g) targets = sweeping g
 stage (Moving k s) targets = moving k s targets
 
--- the entries of the work list below `t`, newest first
-unfoldable pub newest : List ℕ → ℕ → List ℕ
-newest xs zero = []
-newest xs (suc t) = slice_index xs t ∷ newest xs t
-
 abbrev pub heap_of : Collector → Heap
-heap_of c = record { pages = view c.heap; work = newest c.items c.top; phase = stage c.phase c.targets; units = c.units }
+heap_of c = traced c.tracing (stage c.phase c.targets) c.units
 
 abbrev pub left_of : Collector → ℕ
-left_of c = left c.phase (view c.heap) c.top
+left_of c = left c.phase (view c.tracing.heap) (length c.tracing.work.items)
+
+-- the collection goes on by one unit, which is not counted yet
+pub record Advances (old new : Collector) : Type 0 where
+  pub units : new.units ≡ old.units
+  pub left : left_of new < left_of old
 
 -- the heap with a new record of `r` references and `d` words, if there is room for it
 abbrev pub new_heap : Heap → ℕ → ℕ → Heap
 new_heap h r d = if_some (new_page h.pages r d) (λ g. with_new h g (fitting (2 + r + d)) r d) h
-
--- reference `f` of block `n`, which is `r`, gets its current form, which is greyed
-abbrev pub rescan_at : Heap → ℕ → ℕ → ℕ → Heap
-rescan_at h n f r = grey (with_pages h (write_ref h.pages n f (current h.pages r))) r
 
 -- the heap after reference `f` of block `n` was written, behind the barrier
 abbrev pub stored_in : Heap → ℕ → ℕ → ℕ → Heap

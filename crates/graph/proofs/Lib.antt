@@ -1,4 +1,1 @@
-pub mod Numbered
-pub mod Writing
 pub mod Sifting
-pub mod Granted

@@ -1,6 +1,6 @@
 -- A pass over the events that carries the first so far along: what it has passed and what is to come make up the split.
-use Rattle.std.proofs.Common.{◌≡◌, ℕ, ◌+◌, ◌<◌, ◌≤◌, true, false, cond, List, [], ◌∷◌, ◌++◌, length, get_or, take, drop, set, sym, ap, ◌∙◌, append_assoc, arith}
-use Rattle.std.proofs.lemmas.List.{append-nil, drop_more, drop_all, take_all, take_more, take_more_set, drop-set-lt}
+use Rattle.std.proofs.Common.{◌≡◌, ℕ, ◌+◌, ◌<◌, true, false, cond, List, [], ◌∷◌, ◌++◌, length, get_or, take, drop, set, sym, ap, ◌∙◌, append_assoc, arith}
+use Rattle.std.proofs.lemmas.List.{drop_more, take_more, take_more_set, drop-set-lt}
 use Rattle.model.specs.Graph.{Event, before, split_first}
 
 -- `first` is carried, the events below `i` are passed
@@ -38,9 +38,3 @@ passed whole first es i x h e b s =
     ∙ ap (λ row. let r = split_first x (drop (i + 1) (set es i first)) in (r.0, row)) (
     let r = split_first x (drop (i + 1) (set es i first)) in
     sym (ap (λ row. row ++ r.1) (take_more_set es i first h) ∙ append_assoc (take i es) (first ∷ []) r.1))
-
--- after the last event the carried one is the first, and the others are the row
-pub sifted : (whole : Event × List Event) (first : Event) (es : List Event) (i : ℕ) → length es ≤ i → Sifted whole first es i → whole ≡ (first, es)
-sifted whole first es i h s =
-    s ∙ ap (λ row. let r = split_first first row in (r.0, take i es ++ r.1)) (drop_all i es h)
-    ∙ ap (λ row. (first, row)) (append-nil (take i es) ∙ take_all i es h)

@@ -1,5 +1,5 @@
 -- What a call does to the program's graph: what the definitions say, and its agenda has as many places as before.
-use Rattle.std.specs.Prelude.{◌≡◌, Bool, true, false, None, Result}
+use Rattle.std.specs.Prelude.{◌≡◌, Bool, true, false, None, Result, MatchResult}
 use Rattle.calls.specs.declared.Call.{Call}
 use Rattle.calls.specs.declared.Call.TheVariants.{Make, Load, Store, Read, Write, Copy, Clear, Same, Shape, Schedule, Next, Begin, Step, Count}
 use Rattle.calls.specs.declared.Answer.{Answer}
@@ -33,3 +33,7 @@ grows Count = false
 abbrev pub Unperformed : Call → Graph → Graph → Type 0
 Unperformed c g h =
     (graph_of h ≡ graph_of g) × (h.agenda ≡ g.agenda) × (grows c ≡ true) × (graph_refusal c (graph_of g) g.agenda ≡ None)
+
+-- the call is performed, and answers what `say` makes of the result; or there was no memory for it
+abbrev pub PerformsIfMemory : {A E : Type 0} → (A → Result Answer Refusal) → Call → Graph → Graph → Result A E → Type 0
+PerformsIfMemory say c g h r = MatchResult r (λ a. Performs c g h (say a)) (λ _. Unperformed c g h)

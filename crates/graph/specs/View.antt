@@ -4,6 +4,8 @@ use Rattle.model.specs.Graph as model
 use Rattle.graph.specs.declared.Graph.{Graph}
 use Rattle.graph.specs.declared.events.Event.{Event}
 use Rattle.graph.specs.declared.records.Record.{Record}
+use Rattle.graph.specs.declared.rows.Row.{Row}
+use Rattle.graph.specs.declared.rows.Row.TheVariants as row
 
 abbrev pub record_of : Record → model.Record
 record_of r = record { refs = vec_items r.references; words = vec_items r.words }
@@ -25,18 +27,27 @@ graph_of g = record {
   serial = g.serial;
 }
 
+-- the event of a time, for the record in a place
+abbrev pub event_at : model.Graph → ℕ → ℕ → model.Event
+event_at g t p = record { key = record { time = t; serial = g.serial }; names = model.in_place g p }
+
 -- the number of places in its agenda
 abbrev pub agenda_of : Graph → ℕ
 agenda_of g = g.agenda
 
--- a record of the graph gets a reference or a word
-abbrev pub with_reference : model.Graph → ℕ → ℕ → ℕ → model.Graph
-with_reference g n f v =
-    model.with_record g n (record { refs = slice_set (model.record_at g n).refs f v; words = (model.record_at g n).words })
+-- a row of a record
+abbrev pub row_of : Row → model.Record → List ℕ
+row_of row.References r = r.refs
+row_of row.Words r = r.words
 
-abbrev pub with_word : model.Graph → ℕ → ℕ → ℕ → model.Graph
-with_word g n w v =
-    model.with_record g n (record { refs = (model.record_at g n).refs; words = slice_set (model.record_at g n).words w v })
+-- a record gets a reference or a word
+abbrev pub with_entry : Row → model.Record → ℕ → ℕ → model.Record
+with_entry row.References r i v = record { refs = slice_set r.refs i v; words = r.words }
+with_entry row.Words r i v = record { refs = r.refs; words = slice_set r.words i v }
+
+-- record `n` of the graph gets it
+abbrev pub with_entry_of : model.Graph → ℕ → Row → ℕ → ℕ → model.Graph
+with_entry_of g n k i v = model.with_record g n (with_entry k (model.record_at g n) i v)
 
 -- record `n` of the graph is the one at index `i` of the row
 abbrev pub Stands : Graph → ℕ → ℕ → Type 0

@@ -4,7 +4,7 @@ ghost use Rattle.std.specs.Option.{option_map};
 ghost use Rattle.graph.specs.View.{event_of, first_out};
 
 use holders::key::Key;
-use ranking::ranked::Ranked;
+use std::mem;
 
 // The record of a number is due at a key.
 #[derive(Clone, Copy)]
@@ -17,16 +17,11 @@ pub(crate) struct Event {
 pub(crate) fn take_first(events: &mut Vec<Event>) -> Option<Event>
     ensures { (option_map event_of result, map event_of events.new.items) ≡ first_out (map event_of events.old.items) }
 {
-    if events.is_empty() {
-        return None;
-    }
-    let mut first = events.remove(0);
-    for i in 0..events.len() {
-        let event = events[i];
-        if event.key.precedes(first.key) {
-            events[i] = first;
-            first = event;
+    let (first, others) = events.split_first_mut()?;
+    for event in others {
+        if event.key < first.key {
+            mem::swap(event, first);
         }
     }
-    Some(first)
+    Some(events.remove(0))
 }

@@ -12,13 +12,16 @@ mod making;
 mod named;
 mod places;
 mod records;
+mod rows;
 
 use events::Event;
 use records::Record;
 use std::alloc::{AllocError, Global};
 
-// Records are numbered from 1 in the order in which they are made; 0 is nil. Events stand newest first, and are at most
+// No Model: the calls' contracts speak of the room of the agenda too, which is no part of the graph.
+// Records are numbered from 1 in the order in which they are made. Events stand newest first, and are at most
 // as many as the agenda has places. A serial is the number of events that were scheduled before.
+// A place or a reference holds a number, 0 for nil, and no option: so do the definitions, and both rows of a record are of one kind.
 #[derive(Drop)]
 pub struct Graph {
     heap: Global,

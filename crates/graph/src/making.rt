@@ -1,8 +1,7 @@
 // The call that makes a record.
-ghost use Rattle.std.specs.Result.{MatchResult};
 ghost use Rattle.calls.specs.declared.Call.TheVariants as call;
 ghost use Rattle.calls.specs.Results.{said_done};
-ghost use Rattle.graph.specs.Performs.{Performs, Unperformed};
+ghost use Rattle.graph.specs.Performs.{PerformsIfMemory};
 
 use crate::Graph;
 use crate::records::Record;
@@ -18,20 +17,19 @@ impl Graph {
         references: u32,
         words: u32,
     ) -> Result<Result<(), Refusal>, AllocError>
-        ensures { MatchResult result (λ a. Performs (call.Make place references words) self.old self.new (said_done a)) (λ _. Unperformed (call.Make place references words) self.old self.new) }
+        ensures { PerformsIfMemory said_done (call.Make place references words) self.old self.new result }
     {
-        if self.absent(place) {
-            return Ok(Err(Refusal::NoSuchPlace));
+        // no `?`: it hands on want of memory, and a refusal is an answer
+        if let Err(refusal) = self.held(place) {
+            return Ok(Err(refusal));
         }
-        if references as u64 + words as u64 > 30 {
+        if u64::from(references) + u64::from(words) > 30 {
             return Ok(Err(Refusal::TooLarge));
         }
-        if self.records.len() >= u32::MAX as usize {
-            return Err(AllocError);
-        }
+        let number = u32::try_from(self.records.len() + 1).map_err(|_| AllocError)?;
         let record = Record::new(self.heap, references, words)?;
         self.records.push(record)?;
-        self.places[place as usize] = self.records.len() as u32;
+        self.places[place as usize] = number;
         Ok(Ok(()))
     }
 }

@@ -11,10 +11,8 @@ impl Graph {
     pub fn copy(&mut self, into: u32, from: u32) -> Result<(), Refusal>
         ensures { Performs (call.Copy into from) self.old self.new (said_done result) }
     {
-        if self.absent(into) || self.absent(from) {
-            return Err(Refusal::NoSuchPlace);
-        }
-        self.places[into as usize] = self.in_place(from);
+        self.held(into)?;
+        self.places[into as usize] = self.held(from)?;
         Ok(())
     }
 
@@ -22,9 +20,7 @@ impl Graph {
     pub fn clear(&mut self, place: u32) -> Result<(), Refusal>
         ensures { Performs (call.Clear place) self.old self.new (said_done result) }
     {
-        if self.absent(place) {
-            return Err(Refusal::NoSuchPlace);
-        }
+        self.held(place)?;
         self.places[place as usize] = 0;
         Ok(())
     }
@@ -33,9 +29,6 @@ impl Graph {
     pub fn same(&self, left: u32, right: u32) -> Result<bool, Refusal>
         ensures { Performs (call.Same left right) self.now self.now (said_same result) }
     {
-        if self.absent(left) || self.absent(right) {
-            return Err(Refusal::NoSuchPlace);
-        }
-        Ok(self.in_place(left) == self.in_place(right))
+        Ok(self.held(left)? == self.held(right)?)
     }
 }

@@ -1,23 +1,52 @@
--- Counts and searches over the blocks, from the front.
-use Rattle.std.proofs.Common.{◌≡◌, ℕ, suc, ◌+◌, ◌<◌, ◌≤◌, Bool, true, false, cond, eqb, List, [], ◌∷◌, length, get_or, drop, Some, None, Option, sym, refl, ap, ◌∙◌, add-one, arith}
-use Rattle.std.proofs.lemmas.List.{at_drop_more, at_drop_all}
-use Rattle.model.specs.Pages.{Block, Page, uncut, page_at, number, occupied, count_slots, count_of_blocks}
+-- Counts and searches over the blocks.
+use Rattle.std.proofs.Common.{◌≡◌, ℕ, suc, ◌+◌, ◌<◌, ◌≤◌, Bool, true, false, cond, eqb, List, [], ◌∷◌, find, filter, sum_by, length, get_or, Some, None, Option, sym, refl, ap, ◌∙◌, ap₂, add-one, arith}
+use Rattle.std.specs.List.{range_with_len}
+use Rattle.std.proofs.lemmas.List.Sums.{sum_by-cons}
+use Rattle.model.specs.Pages.{Block, Page, page_at, number, occupied, count_slots, count_of_blocks}
 use Rattle.model.specs.Units.{is_current_block, lowest_current_block}
 use Rattle.heap.specs.View.{occupied_blocks}
 
-slot_cons : (g i : ℕ) (x : Option Block) (xs : List (Option Block)) → count_slots true g i (x ∷ xs) ≡ cond (is_current_block (number g i) x) 1 0 + count_slots true g (suc i) xs
-slot_cons g i None xs = omega arith
-slot_cons g i (Some b) xs = refl
+-- ---- the slots of a page, from slot `i` on, of which `f` tells which hold a current block
 
-pub slots_step : (g : ℕ) (xs : List (Option Block)) (s : ℕ) → s < length xs
-    → count_slots true g s (drop s xs) ≡ cond (is_current_block (number g s) (get_or xs s None)) 1 0 + count_slots true g (s + 1) (drop (s + 1) xs)
-slots_step g xs s h =
-    at_drop_more (count_slots true g s) xs s None h
-    ∙ slot_cons g s (get_or xs s None) (drop (s + 1) xs)
-    ∙ ap (λ (x : ℕ). cond (is_current_block (number g s) (get_or xs s None)) 1 0 + count_slots true g x (drop (s + 1) xs)) (sym (add-one s))
+abbrev tells : (ℕ → Bool) → ℕ → ℕ → List (Option Block) → Type 0
+tells f g i xs = (k : ℕ) → k < length xs → f (i + k) ≡ is_current_block (number g (i + k)) (get_or xs k None)
 
-pub slots_end : (g : ℕ) (xs : List (Option Block)) (s : ℕ) → length xs ≤ s → count_slots true g s (drop s xs) ≡ 0
-slots_end g xs s h = at_drop_all (count_slots true g s) xs s h
+tells_more : (f : ℕ → Bool) (g i : ℕ) (x : Option Block) (xs : List (Option Block)) → tells f g i (x ∷ xs) → tells f g (i + 1) xs
+tells_more f g i x xs h k l =
+    let z : i + 1 + k ≡ i + suc k = omega arith in
+    ap f z ∙ h (suc k) (omega arith) ∙ sym (ap (λ (j : ℕ). is_current_block (number g j) (get_or xs k None)) z)
+
+tells_first : (f : ℕ → Bool) (g i : ℕ) (x : Option Block) (xs : List (Option Block)) → tells f g i (x ∷ xs) → f i ≡ is_current_block (number g i) x
+tells_first f g i x xs h =
+    let z : i + 0 ≡ i = omega arith in
+    sym (ap f z) ∙ h 0 (omega arith) ∙ ap (λ (j : ℕ). is_current_block (number g j) x) z
+
+slot_cons : (g i : ℕ) (x : Option Block) (xs : List (Option Block)) → cond (is_current_block (number g i) x) 1 0 + count_slots true g (i + 1) xs ≡ count_slots true g i (x ∷ xs)
+slot_cons g i x xs = ap (λ (j : ℕ). cond (is_current_block (number g i) x) 1 0 + count_slots true g j xs) (add-one i) ∙ by x
+  where
+    by : (y : Option Block) → cond (is_current_block (number g i) y) 1 0 + count_slots true g (suc i) xs ≡ count_slots true g i (y ∷ xs)
+    by None = omega arith
+    by (Some b) = refl
+
+pub count_current : (f : ℕ → Bool) (g i : ℕ) (xs : List (Option Block)) → tells f g i xs → length (filter f (range_with_len i (length xs))) ≡ count_slots true g i xs
+count_current f g i [] h = refl
+count_current f g i (x ∷ xs) h =
+    one (f i)
+    ∙ ap₂ (λ (b : Bool) (n : ℕ). cond b 1 0 + n) (tells_first f g i x xs h) (count_current f g (i + 1) xs (tells_more f g i x xs h))
+    ∙ slot_cons g i x xs
+  where
+    one : (b : Bool) → length (cond b (i ∷ filter f (range_with_len (i + 1) (length xs))) (filter f (range_with_len (i + 1) (length xs))))
+        ≡ cond b 1 0 + length (filter f (range_with_len (i + 1) (length xs)))
+    one true = omega arith
+    one false = omega arith
+
+pub find_current : (f : ℕ → Bool) (g i : ℕ) (xs : List (Option Block)) → tells f g i xs → find f (range_with_len i (length xs)) ≡ lowest_current_block g i xs
+find_current f g i [] h = refl
+find_current f g i (x ∷ xs) h =
+    ap₂ (λ (b : Bool) (o : Option ℕ). cond b (Some i) o) (tells_first f g i x xs h)
+    (find_current f g (i + 1) xs (tells_more f g i x xs h) ∙ ap (λ (j : ℕ). lowest_current_block g j xs) (add-one i))
+
+-- ---- all pages
 
 -- a block is current or a husk
 pub either_way : (g i : ℕ) (xs : List (Option Block)) → count_slots true g i xs + count_slots false g i xs ≡ occupied xs
@@ -30,30 +59,33 @@ either_way g i (Some b ∷ xs) = by (eqb b.forward (number g i)) (either_way g (
     by true e = omega arith
     by false e = omega arith
 
-pub used_most : (xs : List (Option Block)) → occupied xs ≤ length xs
-used_most [] = omega arith
-used_most (None ∷ xs) = let r = used_most xs in omega arith
-used_most (Some b ∷ xs) = let r = used_most xs in omega arith
+pub counted_most : (c : Bool) (g i : ℕ) (xs : List (Option Block)) → count_slots c g i xs ≤ length xs
+counted_most c g i [] = omega arith
+counted_most c g i (None ∷ xs) = let r = counted_most c g (suc i) xs in omega arith
+counted_most c g i (Some b ∷ xs) = let r = counted_most c g (suc i) xs in let m = one (eqb b.forward (number g i)) c in omega arith
+  where
+    one : (t c : Bool) → cond t (cond c 1 0) (cond c 0 1) ≤ 1
+    one true true = omega arith
+    one true false = omega arith
+    one false true = omega arith
+    one false false = omega arith
 
-pub blocks_step : (c : Bool) (ps : List Page) (g : ℕ) → g < length ps
-    → count_of_blocks c g (drop g ps) ≡ count_slots c g 0 (page_at ps g).slots + count_of_blocks c (g + 1) (drop (g + 1) ps)
-blocks_step c ps g h =
-    let s : count_of_blocks c g (drop g ps) ≡ count_slots c g 0 (page_at ps g).slots + count_of_blocks c (suc g) (drop (g + 1) ps) = at_drop_more (count_of_blocks c g) ps g uncut h in
-    s ∙ ap (λ (x : ℕ). count_slots c g 0 (page_at ps g).slots + count_of_blocks c x (drop (g + 1) ps)) (sym (add-one g))
+sum_from : (c : Bool) (h : ℕ → ℕ) (a : ℕ) (ps : List Page) → ((k : ℕ) → k < length ps → h (a + k) ≡ count_slots c (a + k) 0 (page_at ps k).slots)
+    → sum_by h (range_with_len a (length ps)) ≡ count_of_blocks c a ps
+sum_from c h a [] e = refl
+sum_from c h a (p ∷ ps) e =
+    let z : a + 0 ≡ a = omega arith in
+    sum_by-cons h a (range_with_len (a + 1) (length ps))
+    ∙ ap₂ (λ (m n : ℕ). m + n) (sym (ap h z) ∙ e 0 (omega arith) ∙ ap (λ (i : ℕ). count_slots c i 0 p.slots) z)
+    (sum_from c h (a + 1) ps
+    (λ k l. let w : a + 1 + k ≡ a + suc k = omega arith in ap h w ∙ e (suc k) (omega arith) ∙ sym (ap (λ (i : ℕ). count_slots c i 0 (page_at ps k).slots) w))
+    ∙ ap (λ (i : ℕ). count_of_blocks c i ps) (add-one a))
 
-pub blocks_end : (c : Bool) (ps : List Page) (g : ℕ) → length ps ≤ g → count_of_blocks c g (drop g ps) ≡ 0
-blocks_end c ps g h = at_drop_all (count_of_blocks c g) ps g h
-
--- the lowest current block, slot by slot
-pub current_step : (g : ℕ) (xs : List (Option Block)) (s : ℕ) → s < length xs
-    → lowest_current_block g s (drop s xs) ≡ cond (is_current_block (number g s) (get_or xs s None)) (Some s) (lowest_current_block g (s + 1) (drop (s + 1) xs))
-current_step g xs s h =
-    let e : lowest_current_block g s (drop s xs) ≡ cond (is_current_block (number g s) (get_or xs s None)) (Some s) (lowest_current_block g (suc s) (drop (s + 1) xs)) =
-    at_drop_more (lowest_current_block g s) xs s None h in
-    e ∙ ap (λ (x : ℕ). cond (is_current_block (number g s) (get_or xs s None)) (Some s) (lowest_current_block g x (drop (s + 1) xs))) (sym (add-one s))
-
-pub current_end : (g : ℕ) (xs : List (Option Block)) (s : ℕ) → length xs ≤ s → lowest_current_block g s (drop s xs) ≡ None
-current_end g xs s h = at_drop_all (lowest_current_block g s) xs s h
+pub sum_of_blocks : (c : Bool) (ps : List Page) → length ps ≡ 64 → sum_by (λ g. count_slots c g 0 (page_at ps g).slots) (range_with_len 0 64) ≡ count_of_blocks c 0 ps
+sum_of_blocks c ps n =
+    ap (λ (k : ℕ). sum_by (λ g. count_slots c g 0 (page_at ps g).slots) (range_with_len 0 k)) (sym n)
+    ∙ sum_from c (λ g. count_slots c g 0 (page_at ps g).slots) 0 ps
+    (λ k l. let z : 0 + k ≡ k = omega arith in ap (λ (i : ℕ). count_slots c i 0 (page_at ps i).slots) z ∙ sym (ap (λ (i : ℕ). count_slots c i 0 (page_at ps k).slots) z))
 
 -- current blocks and husks are the occupied blocks
 pub all_either_way : (g : ℕ) (ps : List Page) → count_of_blocks true g ps + count_of_blocks false g ps ≡ occupied_blocks ps

@@ -1,7 +1,10 @@
 -- Blocks by their numbers: what is found, and what a write makes of all pages.
-use Rattle.std.proofs.Common.{◌≡◌, ℕ, ◌+◌, ◌*◌, ◌/◌, ◌%◌, ◌<◌, ◌≤◌, Bool, true, false, cond, eqb, ◌⊎◌, List, [], length, get_or, set, Some, None, Option, sym, refl, ap, ◌∙◌, subst, ap₂, inl, inr, arith, length-set, get_or-set_other, get_or-set_same}
+use Rattle.std.proofs.Common.{◌≡◌, ℕ, ◌+◌, ◌*◌, ◌/◌, ◌%◌, ◌<◌, ◌≤◌, Bool, true, false, cond, eqb, ltb, slice_get, MatchOption, ◌⊎◌, List, [], length, get_or, set, Some, None, Option, sym, refl, ap, ◌∙◌, subst, ap₂, inl, inr, arith, length-set, get_or-set_other, get_or-set_same}
 use lib.Seq.{set-get_or}
-use Rattle.std.proofs.lemmas.Bool.{ne_eqb, cases_eq}
+use Rattle.std.specs.Bool.{then_some}
+use Rattle.std.proofs.lemmas.List.{set_past}
+use Rattle.std.proofs.lemmas.Bool.{ne_eqb, cases_eq, ltb-true, ltb-false}
+use Rattle.std.proofs.lemmas.Option.{slice_get-get_or}
 use Rattle.std.proofs.lemmas.List.FromFn.{length-map-range_with_len}
 use Rattle.model.specs.Classes.{blocks}
 use Rattle.model.specs.Maps.{has}
@@ -13,8 +16,9 @@ use Rattle.pages.specs.Entries.{pages_of, no_entry, entry_at, NoneNew, mark_slot
 use Rattle.pages.proofs.Bits.{has_within}
 use Rattle.pages.proofs.Views.{slot_at}
 use Rattle.pages.proofs.Pages.{page_is, page_past, set_words}
-use Rattle.heap.specs.Blocks.{block_words, Fit, Fits, Wide, Located, with_word, write_ref, write_ref_in, forwarding, forward_in, marking, mark_in}
-use Rattle.heap.proofs.Words.{write_page, block_end, region_here, region_there, region_length, refs_count, refs_at, refs_past, refs_kept, write_forward, write_ref as block-write-ref, write_word as block-write-word, words_count, words_at, words_past, words_kept, with_words}
+use Rattle.heap.specs.Blocks.{block_words, Fit, Fits, Wide, Located, Finds, Lies, FindsReference, FindsWord, with_word, write_ref, write_ref_in, forwarding, forward_in, marking, mark_in}
+use Rattle.heap.specs.View.{write_word, write_word_in}
+use Rattle.heap.proofs.Words.{write_page, block_end, region_here, region_there, region_length, refs_count, refs_at, write_forward, write_ref as block-write-ref, write_word as block-write-word, words_count, words_at, with_words}
 
 -- the block that a number names
 pub block_is : (es : List Entry) (wss : List (List ℕ)) (n : ℕ) (d : Entry) → 0 < n → page_of n < length es → page_of n < length wss
@@ -63,6 +67,21 @@ put_same ps n b e =
     there : (t : Bool) (o : Option Block) → cond t None o ≡ Some b → o ≡ Some b
     there true o q = let z : ◌≡◌ {A = ℕ} 0 1 = cc in absurd (omega arith)
     there false o q = q
+
+-- a write of a reference, or a word, that the block does not have changes nothing
+pub ref_past : (ps : List Page) (n f v : ℕ) → length (refs_of (block_at ps n)) ≤ f → ps ≡ write_ref ps n f v
+ref_past ps n f v h = at (block_at ps n) refl h
+  where
+    at : (o : Option Block) → block_at ps n ≡ o → length (refs_of o) ≤ f → ps ≡ write_ref_in ps n f v o
+    at None e l = refl
+    at (Some b) e l = sym (ap (λ (x : List ℕ). put_block ps n (with_refs b x)) (set_past b.refs f v l) ∙ put_same ps n b e)
+
+pub word_past : (ps : List Page) (n w v : ℕ) → length (words_of (block_at ps n)) ≤ w → ps ≡ write_word ps n w v
+word_past ps n w v h = at (block_at ps n) refl h
+  where
+    at : (o : Option Block) → block_at ps n ≡ o → length (words_of o) ≤ w → ps ≡ write_word_in ps n w v o
+    at None e l = refl
+    at (Some b) e l = sym (ap (λ (x : List ℕ). put_block ps n (with_words b x)) (set_past b.words w v l) ∙ put_same ps n b e)
 
 module _ (es : List Entry) (wss : List (List ℕ)) (count : length es ≡ 64) (tall : length wss ≡ 64) (fits : Fits es wss)
     (n : ℕ) (some : 0 < n) (few : n ≤ 4096) where
@@ -142,6 +161,13 @@ fits_word es wss g s j v fits wide tall l room within shape k t h on =
 
 -- ---- a block that was found
 
+-- what is answered of a block, if the number names one
+pub found_value : {R : Type 0} (value : Option Block → R) (es : List Entry) (wss : List (List ℕ)) (n : ℕ) (o : Option (ℕ × ℕ)) (r : R) {P : ℕ × ℕ → Type 0}
+    → Finds es wss n o → MatchOption o (r ≡ value None) P → ((x : ℕ × ℕ) → Located es wss n x.0 x.1 → P x → r ≡ value (block_at (pages_of es wss) n))
+    → r ≡ value (block_at (pages_of es wss) n)
+found_value value es wss n None r is answer at = answer ∙ sym (ap value is)
+found_value value es wss n (Some x) r is answer at = at x is answer
+
 module _ (es : List Entry) (wss : List (List ℕ)) (n g s : ℕ) (count : length es ≡ 64) (tall : length wss ≡ 64) (wide : Wide wss) (at : Located es wss n g s) where
   enough : 2 + (refs_in (block_words es wss g s) + words_in (block_words es wss g s)) ≤ length (block_words es wss g s)
   enough =
@@ -155,33 +181,13 @@ module _ (es : List Entry) (wss : List (List ℕ)) (n g s : ℕ) (count : length
   pub its_count : length (refs_of (block_at (pages_of es wss) n)) ≡ get_or (block_words es wss g s) 1 0 % 32
   its_count = ap (λ (o : Option Block). length (refs_of o)) at.block ∙ refs_count (has (entry_at es g).marked s) (block_words es wss g s) enough
 
-  pub its_ref : (f : ℕ) → f < get_or (block_words es wss g s) 1 0 % 32
-      → get_or (refs_of (block_at (pages_of es wss) n)) f 0 ≡ get_or (block_words es wss g s) (2 + f) 0
-  its_ref f h = ap (λ (o : Option Block). get_or (refs_of o) f 0) at.block ∙ refs_at (has (entry_at es g).marked s) (block_words es wss g s) f h
-
-  pub no_ref : (f : ℕ) → get_or (block_words es wss g s) 1 0 % 32 ≤ f → get_or (refs_of (block_at (pages_of es wss) n)) f 0 ≡ 0
-  no_ref f h = ap (λ (o : Option Block). get_or (refs_of o) f 0) at.block ∙ refs_past (has (entry_at es g).marked s) (block_words es wss g s) f h
-
-  pub put_ref : (f v : ℕ) → f < get_or (block_words es wss g s) 1 0 % 32
-      → pages_of es (with_word es wss g s (2 + f) v) ≡ write_ref (pages_of es wss) n f v
-  put_ref f v h =
-      let l = at.low in
+  pub reference_lies : (f : ℕ) (b : Bool) → b ≡ ltb f (refs_in (block_words es wss g s)) → FindsReference es wss n f (then_some b (g, s, 2 + f))
+  reference_lies f true is =
+      let l = ltb-true f (refs_in (block_words es wss g s)) (sym is) in
       let q = at.fit in
-      put_word es wss g s (2 + f) v (omega arith) (omega arith) at.on (omega arith)
-      ∙ ap (put_at (pages_of es wss) g s) (block-write-ref (has (entry_at es g).marked s) (block_words es wss g s) f v h)
-      ∙ ap₂ (λ (x y : ℕ). put_at (pages_of es wss) x y (with_refs b (set b.refs f v))) at.page at.slot
-      ∙ sym (ap (write_ref_in (pages_of es wss) n f v) at.block)
-    where
-      b : Block
-      b = block_of (has (entry_at es g).marked s) (block_words es wss g s)
-
-  pub keep_ref : (f v : ℕ) → get_or (block_words es wss g s) 1 0 % 32 ≤ f → pages_of es wss ≡ write_ref (pages_of es wss) n f v
-  keep_ref f v h =
-      sym
-      (ap (write_ref_in (pages_of es wss) n f v) at.block
-      ∙ ap (λ (x : List ℕ). put_block (pages_of es wss) n (with_refs (block_of (has (entry_at es g).marked s) (block_words es wss g s)) x))
-      (refs_kept (has (entry_at es g).marked s) (block_words es wss g s) f v h)
-      ∙ put_same (pages_of es wss) n (block_of (has (entry_at es g).marked s) (block_words es wss g s)) at.block)
+      record { located = at; below = l; word = refl; within = omega arith }
+  reference_lies f false is =
+      let l = ltb-false f (refs_in (block_words es wss g s)) (sym is) in let e = its_count in omega arith
 
   pub put_forward : (v : ℕ) → pages_of es (with_word es wss g s 0 v) ≡ forwarding (pages_of es wss) n v
   put_forward v =
@@ -196,33 +202,14 @@ module _ (es : List Entry) (wss : List (List ℕ)) (n g s : ℕ) (count : length
   pub its_words : length (words_of (block_at (pages_of es wss) n)) ≡ get_or (block_words es wss g s) 1 0 / 32
   its_words = ap (λ (o : Option Block). length (words_of o)) at.block ∙ words_count (has (entry_at es g).marked s) (block_words es wss g s) enough
 
-  pub its_word : (w : ℕ) → w < get_or (block_words es wss g s) 1 0 / 32
-      → get_or (words_of (block_at (pages_of es wss) n)) w 0 ≡ get_or (block_words es wss g s) (2 + (get_or (block_words es wss g s) 1 0 % 32 + w)) 0
-  its_word w h = ap (λ (o : Option Block). get_or (words_of o) w 0) at.block ∙ words_at (has (entry_at es g).marked s) (block_words es wss g s) w h
-
-  pub no_word : (w : ℕ) → get_or (block_words es wss g s) 1 0 / 32 ≤ w → get_or (words_of (block_at (pages_of es wss) n)) w 0 ≡ 0
-  no_word w h = ap (λ (o : Option Block). get_or (words_of o) w 0) at.block ∙ words_past (has (entry_at es g).marked s) (block_words es wss g s) w h
-
-  -- word `w` of the block is written
-  pub put_value : (w v : ℕ) → w < get_or (block_words es wss g s) 1 0 / 32
-      → pages_of es (with_word es wss g s (2 + (get_or (block_words es wss g s) 1 0 % 32 + w)) v)
-      ≡ put_block (pages_of es wss) n (with_words (block_of (has (entry_at es g).marked s) (block_words es wss g s)) (set (block_of (has (entry_at es g).marked s) (block_words es wss g s)).words w v))
-  put_value w v h =
-      let l = at.low in
+  pub word_lies : (w : ℕ) (b : Bool) → b ≡ ltb w (words_in (block_words es wss g s))
+      → FindsWord es wss n w (then_some b (g, s, 2 + refs_in (block_words es wss g s) + w))
+  word_lies w true is =
+      let l = ltb-true w (words_in (block_words es wss g s)) (sym is) in
       let q = at.fit in
-      put_word es wss g s (2 + (get_or (block_words es wss g s) 1 0 % 32 + w)) v (omega arith) (omega arith) at.on (omega arith)
-      ∙ ap (put_at (pages_of es wss) g s) (block-write-word (has (entry_at es g).marked s) (block_words es wss g s) w v h)
-      ∙ ap₂ (λ (x y : ℕ). put_at (pages_of es wss) x y (with_words b (set b.words w v))) at.page at.slot
-    where
-      b : Block
-      b = block_of (has (entry_at es g).marked s) (block_words es wss g s)
-
-  pub keep_value : (w v : ℕ) → get_or (block_words es wss g s) 1 0 / 32 ≤ w
-      → put_block (pages_of es wss) n (with_words (block_of (has (entry_at es g).marked s) (block_words es wss g s)) (set (block_of (has (entry_at es g).marked s) (block_words es wss g s)).words w v)) ≡ pages_of es wss
-  keep_value w v h =
-      ap (λ (x : List ℕ). put_block (pages_of es wss) n (with_words (block_of (has (entry_at es g).marked s) (block_words es wss g s)) x))
-      (words_kept (has (entry_at es g).marked s) (block_words es wss g s) w v h)
-      ∙ put_same (pages_of es wss) n (block_of (has (entry_at es g).marked s) (block_words es wss g s)) at.block
+      record { located = at; below = l; word = refl; within = omega arith }
+  word_lies w false is =
+      let l = ltb-false w (words_in (block_words es wss g s)) (sym is) in let e = its_words in omega arith
 
   -- the slot of the block that was found
   pub its_slot : get_or (page_at (pages_of es wss) g).slots s None ≡ Some (block_of (has (entry_at es g).marked s) (block_words es wss g s))
@@ -241,6 +228,60 @@ module _ (es : List Entry) (wss : List (List ℕ)) (n g s : ℕ) (count : length
       ap (λ (o : Option Block). set (pages_of es wss) g (mark_slot_in (page_at (pages_of es wss) g) s o)) its_slot
       ∙ ap₂ (λ (x y : ℕ). put_at (pages_of es wss) x y (marked_block b)) at.page at.slot
       ∙ sym (ap (mark_in (pages_of es wss) n) at.block)
+
+-- ---- a reference or a word that was found
+
+module _ (es : List Entry) (wss : List (List ℕ)) (n g s j : ℕ) (count : length es ≡ 64) (tall : length wss ≡ 64) (wide : Wide wss) where
+  abbrev rs : List ℕ
+  rs = block_words es wss g s
+
+  abbrev m : Bool
+  m = has (entry_at es g).marked s
+
+  -- word `j` of the block is written, and makes it `c`
+  put_found : (v : ℕ) (c : Block) → Located es wss n g s → j < (entry_at es g).size → block_of m (set rs j v) ≡ c
+      → pages_of es (with_word es wss g s j v) ≡ put_block (pages_of es wss) n c
+  put_found v c at l made =
+      let low = at.low in
+      put_word es wss g s j v (omega arith) (omega arith) at.on l
+      ∙ ap (put_at (pages_of es wss) g s) made
+      ∙ ap₂ (λ (x y : ℕ). put_at (pages_of es wss) x y c) at.page at.slot
+
+  pub read_ref : (f : ℕ) → Lies es wss n f 2 (refs_in rs) g s j → Some (get_or rs j 0) ≡ slice_get (refs_of (block_at (pages_of es wss) n)) f
+  read_ref f lies =
+      let at = lies.located in
+      let l = lies.below in
+      let long = its_count es wss n g s count tall wide at in
+      ap Some
+      (ap (λ (i : ℕ). get_or rs i 0) lies.word ∙ sym (refs_at m rs f l) ∙ sym (ap (λ (o : Option Block). get_or (refs_of o) f 0) at.block))
+      ∙ sym (slice_get-get_or (refs_of (block_at (pages_of es wss) n)) f 0 (omega arith))
+
+  pub put_ref : (f v : ℕ) → Lies es wss n f 2 (refs_in rs) g s j → pages_of es (with_word es wss g s j v) ≡ write_ref (pages_of es wss) n f v
+  put_ref f v lies =
+      let at = lies.located in
+      put_found v (with_refs (block_of m rs) (set (block_of m rs).refs f v)) at lies.within
+      (ap (λ (i : ℕ). block_of m (set rs i v)) lies.word ∙ block-write-ref m rs f v lies.below)
+      ∙ sym (ap (write_ref_in (pages_of es wss) n f v) at.block)
+
+  pub read_word : (w : ℕ) → Lies es wss n w (2 + refs_in rs) (words_in rs) g s j
+      → Some (get_or rs j 0) ≡ slice_get (words_of (block_at (pages_of es wss) n)) w
+  read_word w lies =
+      let at = lies.located in
+      let l = lies.below in
+      let word : j ≡ 2 + (refs_in rs + w) = lies.word ∙ omega arith in
+      let long = its_words es wss n g s count tall wide at in
+      ap Some
+      (ap (λ (i : ℕ). get_or rs i 0) word ∙ sym (words_at m rs w l) ∙ sym (ap (λ (o : Option Block). get_or (words_of o) w 0) at.block))
+      ∙ sym (slice_get-get_or (words_of (block_at (pages_of es wss) n)) w 0 (omega arith))
+
+  pub put_value : (w v : ℕ) → Lies es wss n w (2 + refs_in rs) (words_in rs) g s j
+      → pages_of es (with_word es wss g s j v) ≡ write_word (pages_of es wss) n w v
+  put_value w v lies =
+      let at = lies.located in
+      let word : j ≡ 2 + (refs_in rs + w) = lies.word ∙ omega arith in
+      put_found v (with_words (block_of m rs) (set (block_of m rs).words w v)) at lies.within
+      (ap (λ (i : ℕ). block_of m (set rs i v)) word ∙ block-write-word m rs w v lies.below)
+      ∙ sym (ap (write_word_in (pages_of es wss) n w v) at.block)
 
 pub block_length : (es : List Entry) (wss : List (List ℕ)) (g s : ℕ) → Wide wss → g < 64
     → s * (entry_at es g).size + (entry_at es g).size ≤ 256 → length (block_words es wss g s) ≡ (entry_at es g).size
@@ -267,12 +308,6 @@ put_number ps g s b h =
     let x : g ≡ page_of (number g s) = omega arith in
     let y : s ≡ slot_of (number g s) = omega arith in
     ap₂ (λ (i j : ℕ). put_at ps i j b) x y
-
--- a block of another page is put in
-pub block_beside : (ps : List Page) (n m : ℕ) (b : Block) → (page_of m ≡ page_of n → ⊥) → block_at (put_block ps n b) m ≡ block_at ps m
-block_beside ps n m b ne =
-    ap (λ (p : Page). cond (eqb m 0) None (get_or p.slots (slot_of m) None))
-    (get_or-set_other ps (page_of n) (page_of m) (with_slots (page_at ps (page_of n)) (set (page_at ps (page_of n)).slots (slot_of n) (Some b))) uncut ne)
 
 -- entries that have no block that was not there before
 pub none_new_fits : (es fs : List Entry) (wss : List (List ℕ)) → NoneNew es fs → Fits es wss → Fits fs wss

@@ -1,16 +1,15 @@
 -- A new block.
-use Rattle.std.proofs.Common.{◌≡◌, ℕ, ◌+◌, ◌*◌, ◌/◌, ◌%◌, ◌<◌, ◌≤◌, Bool, true, false, cond, eqb, List, [], length, get_or, set, Some, None, Option, sym, refl, ap, ◌∙◌, subst, arith, get_or-set_same, set-set}
-use Rattle.std.proofs.lemmas.Bool.{lt-ltb, le-ltb, ne_eqb}
+use Rattle.std.proofs.Common.{◌≡◌, ℕ, ◌+◌, ◌*◌, ◌/◌, ◌%◌, ◌<◌, ◌≤◌, Bool, true, false, cond, eqb, List, [], length, get_or, set, Some, None, Option, sym, ap, ◌∙◌, subst, arith, get_or-set_same, set-set}
+use Rattle.std.proofs.lemmas.Bool.{lt-ltb, le-ltb}
 use Rattle.model.specs.Classes.{fitting}
 use Rattle.model.specs.Pages.{Block, Page, uncut, number, page_at, put_block, lowest_free}
 use Rattle.model.specs.Making.{page_to_take, ready, ready_pages, free_number}
 use Rattle.pages.specs.declared.entry.Entry.{Entry}
 use Rattle.pages.specs.Classes.{Smallest}
 use Rattle.pages.specs.View.{region, block_of, filled}
-use Rattle.pages.specs.Entries.{pages_of, entry_at, Full, Taken}
+use Rattle.pages.specs.Entries.{pages_of, entry_at, Taken}
 use Rattle.pages.specs.Choices.{room_for}
-use Rattle.pages.proofs.Sizes.{smallest}
-use Rattle.pages.proofs.Pages.{pages_long}
+use Rattle.pages.proofs.Pages.{Full, pages_long}
 use Rattle.heap.specs.Blocks.{Fit, Fits, Wide, Written}
 use Rattle.heap.specs.View.{new_page, new_block}
 use Rattle.heap.proofs.Words.{block_end, region_length, new_block_is, cleared_less}
@@ -32,16 +31,6 @@ module _ (ps : List Page) (r d : ℕ) where
       by : (b : Bool) (o : Option ℕ) → cond b None o ≡ Some g → o ≡ Some g
       by true o q = let z : ◌≡◌ {A = ℕ} 0 1 = cc in absurd (omega arith)
       by false o q = q
-
-  some_size : (size : ℕ) → r + d ≤ 30 → Smallest (2 + r + d) size → size ≡ 0 → ⊥
-  some_size size l f z = let s = (f.least 19 (omega arith) (let h : 2 + r + d ≤ 32 = omega arith in h)).0 in omega arith
-
-  pub new_none : r + d ≤ 30 → room_for ps (2 + r + d) ≡ None → new_page ps r d ≡ None
-  new_none l e =
-      within l
-      ∙ sym (ap (λ (b : Bool). cond b None (page_to_take ps (fitting (2 + r + d))))
-      (ne_eqb (fitting (2 + r + d)) 0 (some_size (fitting (2 + r + d)) l (smallest (2 + r + d) (fitting (2 + r + d)) refl))))
-      ∙ e
 
 -- ---- its words
 
@@ -92,9 +81,6 @@ module _ (es fs : List Entry) (wss : List (List ℕ)) (g z size r d : ℕ) (m : 
   enough : 2 + r + d ≤ size
   enough = sm.holds (sm.least 19 (omega arith) (let h : 2 + r + d ≤ 32 = omega arith in h)).0
 
-  pub made_room : z * size + (2 + r + d) ≤ 256
-  made_room = let e = block_end size z tk.short in let f = enough in omega arith
-
   pub made_short : z < 64
   made_short =
       let f = (entry_at fs g).few in
@@ -119,11 +105,11 @@ module _ (es fs : List Entry) (wss : List (List ℕ)) (g z size r d : ℕ) (m : 
       ps_low = let l = pages_long es wss full in let k = tk.low in omega arith
 
       pub made_at : n ≡ free_number (ready_pages (pages_of es wss) g size) g
-      made_at = made_number (pages_of es wss) g size z n ps_low made_short (tk.lowest wss full) is
+      made_at = made_number (pages_of es wss) g size z n ps_low made_short (tk.lowest wss full.1) is
 
       pub made_view : pages_of fs (set wss g vs)
           ≡ put_block (ready_pages (pages_of es wss) g size) (free_number (ready_pages (pages_of es wss) g size) g) (new_block (free_number (ready_pages (pages_of es wss) g size) g) m r d)
       made_view =
           placed_view es fs wss g z size m tk full vs keeps
           ∙ ap (λ (b : Block). set (pages_of es wss) g (filled (ready (page_at (pages_of es wss) g) size) z b)) (made_block size (get_or wss g []) vs z n r d w old few enough tk.short m)
-          ∙ made_pages (pages_of es wss) g size z n ps_low made_short (tk.lowest wss full) is (λ x. new_block x m r d)
+          ∙ made_pages (pages_of es wss) g size z n ps_low made_short (tk.lowest wss full.1) is (λ x. new_block x m r d)

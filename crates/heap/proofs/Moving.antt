@@ -1,36 +1,20 @@
--- A source that closes, and a block that is moved.
-use Rattle.std.proofs.Common.{◌≡◌, ℕ, ◌+◌, ◌*◌, ◌/◌, ◌%◌, ◌<◌, ◌≤◌, Bool, true, ◌⊎◌, List, [], length, get_or, set, Some, None, Option, sym, ap, ◌∙◌, subst, ap₂, inl, inr, arith, length-set, get_or-set_other, get_or-set_same, ext_get_or}
+-- A block that is moved.
+use Rattle.std.proofs.Common.{◌≡◌, ℕ, ◌+◌, ◌*◌, ◌/◌, ◌%◌, ◌<◌, ◌≤◌, Bool, ◌⊎◌, List, [], length, get_or, set, sym, ap, ◌∙◌, subst, ap₂, inl, inr, arith, length-set, get_or-set_other, get_or-set_same, ext_get_or}
 use lib.Seq.{set_comm}
 use Rattle.std.proofs.lemmas.Bool.{cases_eq}
 use Rattle.model.specs.Maps.{has}
 use Rattle.model.specs.Pages.{Block, Page, uncut, number, page_of, slot_of, page_at, block_at, put_block}
-use Rattle.model.specs.Units.{close_page, with_forward, moved}
+use Rattle.model.specs.Units.{with_forward, moved}
 use Rattle.model.specs.Making.{ready}
-use Rattle.model.specs.Calls.{if_some}
 use Rattle.pages.specs.declared.entry.Entry.{Entry}
 use Rattle.pages.specs.View.{region, block_of, filled}
-use Rattle.pages.specs.Entries.{pages_of, entry_at, Full, Taken}
-use Rattle.pages.specs.Choices.{Closes}
+use Rattle.pages.specs.Entries.{pages_of, entry_at, Taken}
 use Rattle.pages.proofs.Taking.{ready_same}
+use Rattle.pages.proofs.Pages.{Full}
 use Rattle.heap.specs.Blocks.{block_words, with_word, Fit, Fits, Wide, Located, Copied, forward_in}
 use Rattle.heap.proofs.Words.{block_end, region_at, region_length, write_forward}
-use Rattle.heap.proofs.Found.{none_new_fits, put_number, put_forward, block_length, wide_word, fits_word}
+use Rattle.heap.proofs.Found.{put_number, put_forward, block_length, wide_word, fits_word}
 use Rattle.heap.proofs.Placing.{region_kept, wide_set, placed_view, placed_fits}
-
--- ---- a source closes
-
-pub closes_count : (es fs : List Entry) (r : Option ℕ) → Closes es fs r → length fs ≡ length es
-closes_count es fs None c = ap length c
-closes_count es fs (Some g) c = c.count
-
-pub closes_fits : (es fs : List Entry) (wss : List (List ℕ)) (r : Option ℕ) → Closes es fs r → Fits es wss → Fits fs wss
-closes_fits es fs wss None c f = let P : List Entry → Type 0 = λ xs. Fits xs wss in subst P (sym c) f
-closes_fits es fs wss (Some g) c f = none_new_fits es fs wss c.none_new f
-
-pub closes_view : (es fs : List Entry) (wss : List (List ℕ)) (r : Option ℕ) → Closes es fs r → Full es wss
-    → pages_of fs wss ≡ if_some r (λ g. close_page (pages_of es wss) g true) (pages_of es wss)
-closes_view es fs wss None c full = ap (λ (xs : List Entry). pages_of xs wss) c
-closes_view es fs wss (Some g) c full = c.view wss full
 
 -- ---- a block is moved
 
@@ -89,9 +73,6 @@ module _ (es fs : List Entry) (wss vss : List (List ℕ)) (n g s t z size : ℕ)
       let h = tk.short in omega arith
 
   module _ (v : ℕ) (vs : v ≡ number t z) (cp : Copied wss vss g (s * size) t (z * size) size v) where
-    abbrev w1 : List (List ℕ)
-    w1 = with_word es wss g s 0 v
-
     words_are : vss ≡ set (with_word es wss g s 0 v) t cp.vt
     words_are =
         let e : s * size ≡ s * (entry_at es g).size + 0 = ap (λ (x : ℕ). s * x) size_is ∙ (let z : s * (entry_at es g).size ≡ s * (entry_at es g).size + 0 = omega arith in z) in

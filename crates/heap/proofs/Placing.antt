@@ -9,9 +9,9 @@ use Rattle.model.specs.Pages.{Block, Page, uncut, page_at}
 use Rattle.model.specs.Making.{ready}
 use Rattle.pages.specs.declared.entry.Entry.{Entry}
 use Rattle.pages.specs.View.{region, block_of, slot_view, page_view, filled}
-use Rattle.pages.specs.Entries.{pages_of, no_entry, entry_at, Full, Taken}
+use Rattle.pages.specs.Entries.{pages_of, no_entry, entry_at, Taken}
 use Rattle.pages.proofs.Views.{same_counted}
-use Rattle.pages.proofs.Pages.{set_words, page_of_entry}
+use Rattle.pages.proofs.Pages.{Full, set_words, page_of_entry}
 use Rattle.heap.specs.Blocks.{Fit, Fits, Wide, Cleared, Written}
 use Rattle.heap.proofs.Words.{region_at}
 
@@ -106,7 +106,7 @@ module _ (es fs : List Entry) (wss : List (List ℕ)) (t z size : ℕ) (m : Bool
 
   pub placed_view : pages_of fs (set wss t vt) ≡ set (pages_of es wss) t (filled (ready (page_at (pages_of es wss) t) size) z (block_of m (region size vt z)))
   placed_view =
-      tk.view (set wss t vt) (full.0, length-set wss t vt ∙ full.1)
+      tk.view (set wss t vt) (length-set wss t vt ∙ full.1)
       ∙ ap (λ (ps : List Page). set ps t (filled (ready (page_at ps t) size) z (block_of m (region size (get_or (set wss t vt) t []) z)))) same_pages
       ∙ ap (λ (ws : List ℕ). set (pages_of es wss) t (filled (ready (page_at (pages_of es wss) t) size) z (block_of m (region size ws z)))) here
 

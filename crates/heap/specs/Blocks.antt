@@ -1,7 +1,7 @@
 -- The words of the blocks of all pages.
 use Rattle.std.specs.Prelude.{◌≡◌, ℕ, ◌+◌, ◌*◌, ◌<◌, ◌≤◌, Bool, true, false, ◌⊎◌, List, [], length, get_or, Some, None, Option, slice_index, slice_index_or, slice_set}
 use Rattle.model.specs.Maps.{has}
-use Rattle.model.specs.Pages.{Block, Page, page_of, slot_of, block_at, put_block}
+use Rattle.model.specs.Pages.{Block, Page, page_of, slot_of, block_at, put_block, refs_of, words_of}
 use Rattle.model.specs.Units.{with_refs, with_forward, marked_block}
 use Rattle.pages.specs.declared.entry.Entry.{Entry}
 use Rattle.pages.specs.View.{region, refs_in, words_in, block_of}
@@ -40,6 +40,23 @@ pub record Located (es : List Entry) (wss : List (List ℕ)) (n g s : ℕ) : Typ
 abbrev pub Finds : List Entry → List (List ℕ) → ℕ → Option (ℕ × ℕ) → Type 0
 Finds es wss n None = block_at (pages_of es wss) n ≡ None
 Finds es wss n (Some p) = Located es wss n p.0 p.1
+
+-- item `i` of the `count` that block `n` has from its word `from` on lies in word `j` of block `s` of page `g`
+pub record Lies (es : List Entry) (wss : List (List ℕ)) (n i from count g s j : ℕ) : Type 0 where
+  pub located : Located es wss n g s
+  pub below : i < count
+  pub word : j ≡ from + i
+  pub within : j < (entry_at es g).size
+
+-- where reference `f` of the block lies, if it has one
+abbrev pub FindsReference : List Entry → List (List ℕ) → ℕ → ℕ → Option (ℕ × ℕ × ℕ) → Type 0
+FindsReference es wss n f None = length (refs_of (block_at (pages_of es wss) n)) ≤ f
+FindsReference es wss n f (Some p) = Lies es wss n f 2 (refs_in (block_words es wss p.0 p.1)) p.0 p.1 p.2
+
+-- where word `w` of the block lies, if it has one
+abbrev pub FindsWord : List Entry → List (List ℕ) → ℕ → ℕ → Option (ℕ × ℕ × ℕ) → Type 0
+FindsWord es wss n w None = length (words_of (block_at (pages_of es wss) n)) ≤ w
+FindsWord es wss n w (Some p) = Lies es wss n w (2 + refs_in (block_words es wss p.0 p.1)) (words_in (block_words es wss p.0 p.1)) p.0 p.1 p.2
 
 -- the page and the slot that a number names
 abbrev pub place : {A : Type 0} → Option A → ℕ → Option (ℕ × ℕ)

@@ -115,7 +115,7 @@ none_holds [] e = tt
 none_holds (c ∷ cs) e = go c.0 refl e (λ f. none_holds cs f)
   where
     go : (b : Bool) → c.0 ≡ b → None ≡ cond b (Some c.1) (first_refusal cs) → (None ≡ first_refusal cs → NoneHolds cs) → NoneHolds (c ∷ cs)
-    go true q f rest = let z : ◌≡◌ {A = ℕ} 0 1 = cc in let bad : ⊥ = omega arith in absurd bad
+    go true q f rest = cc
     go false q f rest = (q, rest f)
 
 module _ (a : ℕ) (h : History) (k : KeptHistory a h) where

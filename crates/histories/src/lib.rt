@@ -7,15 +7,11 @@ ghost use Rattle.histories.specs.Order.{EveryCallContinues};
 // Each contract is a theorem.
 
 // Every history is orderly, and the clock never falls.
-pub fn every_history_is_orderly() -> u8
+pub fn every_history_is_orderly()
     ensures { EveryCallContinues }
-{
-    0
-}
+{}
 
 // An event that is scheduled later comes first where its time is earlier, and second where the times are equal.
-pub fn a_day_is_in_order() -> u8
+pub fn a_day_is_in_order()
     ensures { DayInOrder }
-{
-    0
-}
+{}

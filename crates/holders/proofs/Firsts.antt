@@ -1,7 +1,9 @@
 -- Which place is first, and which is spare, by what is known of it.
-use Rattle.std.proofs.Common.{◌≡◌, ℕ, zero, suc, ◌<◌, ◌≤◌, true, false, List, [], ◌∷◌, length, get_or, is_some, Some, None, Option, sym, refl, ap, ◌∙◌, subst, ⊎_elim, arith}
-use Rattle.std.specs.List.{IsFirstBest}
+use Rattle.std.proofs.Common.{◌≡◌, ℕ, zero, suc, ◌+◌, cond, ◌<◌, ◌≤◌, true, false, List, [], ◌∷◌, length, get_or, is_some, Some, None, Option, sym, refl, ap, ◌∙◌, subst, ⊎_elim, arith}
+use Rattle.std.specs.List.{IsFirstBest, position_or_len}
+use Rattle.std.specs.Option.{is_none}
 use Rattle.std.proofs.lemmas.List.{get_or_past}
+use Rattle.std.proofs.lemmas.List.Recursion.{is_position_or_len}
 use Rattle.std.proofs.lemmas.Bool.{true≢false, cond-true, cond-false, cases_Bool, cases_lt}
 use Rattle.holders.specs.declared.key.Key.{Key}
 use Rattle.holders.specs.Keys.{before_key, keyed, sooner, first_of, spare_of}
@@ -23,13 +25,13 @@ first_none [] h = refl
 first_none (k ∷ ks) h =
     cond-false _ _ _ (none_before (get_or ks (first_of ks) None) k (h (suc (first_of ks)))) ∙ cond-false (is_some k) 0 (suc (first_of ks)) (h zero) ∙ ap suc (first_none ks (λ j. h (suc j)))
 
-pub spare_at : (ks : List (Option Key)) (b : ℕ) → b ≤ length ks → is_some (get_or ks b None) ≡ false
-    → ((k : ℕ) → k < b → is_some (get_or ks k None) ≡ true) → b ≡ spare_of ks
-spare_at [] b l n h = omega arith
-spare_at (None ∷ ks) zero l n h = refl
-spare_at (Some k ∷ ks) zero l n h = absurd (true≢false n)
-spare_at (None ∷ ks) (suc b) l n h = absurd (true≢false (sym (h zero (omega arith))))
-spare_at (Some k ∷ ks) (suc b) l n h = ap suc (spare_at ks b (omega arith) n (λ j m. h (suc j) (omega arith)))
+-- the spare place is the first without a key
+pub spare_position : (ks : List (Option Key)) → spare_of ks ≡ position_or_len is_none ks
+spare_position = is_position_or_len spare_of is_none refl step
+  where
+    step : (k : Option Key) (ks : List (Option Key)) → spare_of (k ∷ ks) ≡ cond (is_none k) 0 (1 + spare_of ks)
+    step None ks = refl
+    step (Some k) ks = omega arith
 
 -- the best by the order of keys, where it bears one, is the first
 pub first_at_best : (ks : List (Option Key)) (b : ℕ) → IsFirstBest before_key ks (length ks) b → is_some (get_or ks b None) ≡ true → b ≡ first_of ks

@@ -1,4 +1,3 @@
 pub mod Firsts
 pub mod Orders
-pub mod Wipes
 pub mod Words

@@ -30,6 +30,7 @@ pub trait Agenda: Holder {
         ensures changed { keys self.new ≡ slice_set (keys self.old) i None };
 
     // The keyed place least by time, then serial, then place, or the number of places.
+    // Here and in spare a number and no option: what an agenda means is that it answers how many places it has where there is none.
     fn first(&self) -> u32
         ensures value { result ≡ first_of (keys self.now) }
         ensures least { FirstKeyed (keys self.now) result };
@@ -39,5 +40,5 @@ pub trait Agenda: Holder {
         ensures value { result ≡ spare_of (keys self.now) }
         ensures lowest { LowestUnkeyed (keys self.now) result };
 
-    ghost keyed: { (a : Self) → length (keys a) ≡ Self.Holder.places };
+    ghost keyed: { (a : Self) → length (keys a) ≡ Self.Holder.PLACES };
 }

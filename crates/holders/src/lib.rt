@@ -7,4 +7,5 @@ pub mod holder;
 pub mod key;
 pub mod order;
 pub mod registers;
+mod row;
 pub mod table;

@@ -5,6 +5,7 @@ ghost use Rattle.std.proofs.Common.{rules};
 use crate::key::Key;
 use ranking::ranked::Ranked;
 
+// Each kind of item shows the laws of its own order, as candidates do; `precedes` is the derived `<`.
 impl Ranked for Key {
     ghost before = { key_before };
 
@@ -17,10 +18,6 @@ impl Ranked for Key {
     ghost chain = { Prim.search rules };
 
     fn precedes(self, other: Key) -> bool {
-        if self.time == other.time {
-            self.serial < other.serial
-        } else {
-            self.time < other.time
-        }
+        self < other
     }
 }

@@ -1,17 +1,21 @@
 // An agenda of sixty-four places that searches its keys.
-ghost use Rattle.std.specs.Prelude.{◌≡◌, ◌≤◌, length, replicate, None, slice_set};
+ghost use Rattle.std.specs.Prelude.{◌≡◌, ◌≤◌, length, replicate, None, slice_set, position};
+ghost use Rattle.std.specs.Option.{is_none};
 ghost use Rattle.holders.specs.Keys.{spare_of};
-ghost use Rattle.std.proofs.Common.{rules, arith};
+ghost use Rattle.std.proofs.Common.{rules};
 
 use crate::agenda::Agenda;
 use crate::holder::Holder;
 use crate::key::Key;
+use crate::row::{read_place, write_place};
 use ranking::ranked::least;
 
 #[derive(Drop)]
 pub struct TableAgenda {
+    // two rows and no row of pairs, since `least` goes over the keys as they lie
     numbers: [u32; 64],
     keys: [Option<Key>; 64],
+    // the laws of an agenda are of lists, which have no length of their own as an array has
     ghost wide: { length numbers ≡ 64 },
     ghost deep: { length keys ≡ 64 },
 }
@@ -28,41 +32,28 @@ impl TableAgenda {
     }
 }
 
-// The lowest place with no key, or the number of places.
-fn unkeyed(keys: &[Option<Key>]) -> usize
-    ensures within { result ≤ length keys.now }
-    ensures place { result ≡ spare_of keys.now }
+// The lowest place with no key.
+fn unkeyed(keys: &[Option<Key>]) -> Option<usize>
+    ensures { result ≡ position is_none keys.now }
 {
-    for i in 0..keys.len() {
-        if keys[i].is_none() {
-            return i;
-        }
-    }
-    keys.len()
+    keys.iter().position(Option::is_none)
 }
 
 impl Holder for TableAgenda {
     const PLACES: u32 = 64;
 
-    ghost places = { 64 };
+    ghost PLACES = { 64 };
 
     ghost row = { λ a. a.numbers };
 
-    ghost some = { first_of (Prim.search rules, Prim.grind (arith, Self.row.coded.inj)) };
+    ghost some = { Prim.search rules };
 
-    ghost few = { first_of (Prim.search rules, Prim.grind (arith, Self.row.coded.inj)) };
+    ghost few = { Prim.search rules };
 
-    ghost long = { first_of (Prim.search rules, Prim.grind (arith, Self.row.coded.inj)) };
-
-    fn count() -> u32 {
-        Self::PLACES
-    }
+    ghost long = { λ a. a.wide };
 
     fn get(&self, i: u32) -> u32 {
-        if i >= 64 {
-            return 0;
-        }
-        self.numbers[i as usize]
+        read_place(&self.numbers, i, 0)
     }
 
     // Besides what every holder promises: no key changes.
@@ -70,51 +61,39 @@ impl Holder for TableAgenda {
         ensures number { self.new.numbers ≡ slice_set self.old.numbers i v }
         ensures same { self.new.keys ≡ self.old.keys }
     {
-        let place = i as usize;
-        if place < 64 {
-            self.numbers[place] = v;
-        }
+        write_place(&mut self.numbers, i, v);
     }
 }
 
 impl Agenda for TableAgenda {
     ghost keys = { λ a. a.keys };
 
-    ghost keyed = { first_of (Prim.search rules, Prim.grind (arith, Self.row.coded.inj)) };
+    ghost keyed = { λ a. a.deep };
 
     fn write(&mut self, i: u32, v: u32) {
         self.put(i, v);
     }
 
     fn key(&self, i: u32) -> Option<Key> {
-        if i >= 64 {
-            return None;
-        }
-        self.keys[i as usize]
+        read_place(&self.keys, i, None)
     }
 
     fn key_place(&mut self, i: u32, key: Key) {
-        let place = i as usize;
-        if place < 64 {
-            self.keys[place] = Some(key);
-        }
+        write_place(&mut self.keys, i, Some(key));
     }
 
     fn unkey(&mut self, i: u32) {
-        let place = i as usize;
-        if place < 64 {
-            self.keys[place] = None;
-        }
+        write_place(&mut self.keys, i, None);
     }
 
     fn first(&self) -> u32 {
         match least(&self.keys) {
-            Some(b) => { if self.keys[b].is_some() { b as u32 } else { 64 } }
-            None => 64,
+            Some(place) if self.keys[place].is_some() => place as u32,
+            _ => Self::count(),
         }
     }
 
     fn spare(&self) -> u32 {
-        unkeyed(&self.keys) as u32
+        unkeyed(&self.keys).map_or(Self::count(), |place| place as u32)
     }
 }

@@ -1,5 +1,6 @@
 -- Runs of lines, one after another.
-use Rattle.std.proofs.Common.{◌≡◌, ℕ, List, [], ◌∷◌, ◌++◌, sym, refl, ap, ◌∙◌, subst, append_assoc, append-nil}
+use Rattle.std.proofs.Common.{◌≡◌, ℕ, List, [], ◌∷◌, ◌++◌, sym, refl, ap, ◌∙◌, subst, append_assoc, append-nil, Ok, Err, Result}
+use Rattle.std.specs.Result.{OnOk}
 use Rattle.std.specs.List.{FoldsTo}
 use Rattle.script.specs.Lines.{meaning}
 use Rattle.lines.specs.Feeding.{fed}
@@ -57,3 +58,8 @@ module _ {S : Type 0} (took : Took S) where
             (runs_append s (lines_of bs) written (recorder x) (if_some h) r.0 (recorder y) so.ran r.1),
         r.2,
       )
+
+-- what holds of a result that is not an error, from two facts of it
+pub on_both : {T E A B P : Type 0} (r : Result T E) → OnOk r A → OnOk r B → (A → B → P) → OnOk r P
+on_both (Ok v) a b f = f a b
+on_both (Err e) a b f = tt

@@ -1,27 +1,26 @@
 -- Feeding byte by byte, chunk by chunk and at once.
-use Rattle.std.proofs.Common.{◌≡◌, ℕ, zero, suc, ◌+◌, ◌<◌, true, false, cond, eqb, List, [], ◌∷◌, ◌++◌, map, length, take, set, sym, refl, ap, ◌∙◌, append_assoc, append-nil, arith}
-use Rattle.std.proofs.lemmas.List.{take_more_set, take_all, take_at, length_push, length-take-le}
-use Rattle.script.specs.Fields.{onto, parted}
+use Rattle.std.proofs.Common.{◌≡◌, ℕ, zero, suc, ◌<◌, true, false, cond, eqb, List, [], ◌∷◌, ◌++◌, map, length, take, Ok, Err, Result, sym, refl, ap, ◌∙◌, append_assoc, append-nil, arith, rules}
+use Rattle.std.proofs.lemmas.List.{take_all, take_at, length_push}
+use Rattle.std.specs.List.{onto_first}
+use Rattle.arrayvec.specs.ArrayVec.{ArrayVec}
+use Rattle.std.specs.Result.{IsOk, OnErr, OnOk}
+use Rattle.script.specs.Fields.{parted}
 use Rattle.script.proofs.Splitting.{headed}
 use Rattle.lines.specs.Feeding.{fed, kept}
 use Rattle.lines.specs.Lines.{all_lines, but_last, if_some, last_part, lines_of, rest_of, without_empty_end}
 
--- one byte more in the buffer
-pub room : (xs : List ℕ) (n b : ℕ) → length xs ≡ 81 → n < 81 → take (n + 1) (set xs n b) ≡ take 81 (take n xs ++ b ∷ [])
-room xs n b wide h =
-    take_more_set xs n b (omega arith) ∙
-    sym (take_all 81 (take n xs ++ b ∷ []) (omega (arith, length_push (take n xs) b, length-take-le n xs (omega arith))))
+-- one byte more in the buffer, where it fits and where it does not
+pub kept_more : {E : Type 0} (r : Result (Unit {0}) E) (new old : ArrayVec ℕ) (b : ℕ) → OnOk r (new.items ≡ old.items ++ b ∷ []) → OnErr r (new ≡ old) → OnErr r (length old.items ≡ 81) → (IsOk r → length old.items < 81) → new.items ≡ take 81 (old.items ++ b ∷ [])
+kept_more (Ok v) new old b pushed same full room = pushed ∙ sym (take_all 81 (old.items ++ b ∷ []) (omega (arith, length_push old.items b, room (search rules))))
+kept_more (Err e) new old b pushed same full room = ap (λ v. v.items) same ∙ sym (take_at old.items (b ∷ []) 81 full)
 
-pub no_room : (xs : List ℕ) (n b : ℕ) → length xs ≡ 81 → n ≡ 81 → take n xs ≡ take 81 (take n xs ++ b ∷ [])
-no_room xs n b wide h = sym (take_at (take n xs) (b ∷ []) 81 (length-take-le n xs (omega arith) ∙ h))
-
-pub fed_append : (h a b : List ℕ) → fed h (a ++ b) ≡ fed h a ++ fed (kept h a) b
+fed_append : (h a b : List ℕ) → fed h (a ++ b) ≡ fed h a ++ fed (kept h a) b
 fed_append h [] b = refl
 fed_append h (c ∷ cs) b =
     elim (eqb c 10) as (λ t. cond t (h ∷ fed [] (cs ++ b)) (fed (take 81 (h ++ c ∷ [])) (cs ++ b)) ≡ cond t (h ∷ fed [] cs) (fed (take 81 (h ++ c ∷ [])) cs) ++ fed (cond t (kept [] cs) (kept (take 81 (h ++ c ∷ [])) cs)) b)
     [ true ↦ ap (λ (l : List (List ℕ)). h ∷ l) (fed_append [] cs b) | false ↦ fed_append (take 81 (h ++ c ∷ [])) cs b ]
 
-pub kept_append : (h a b : List ℕ) → kept h (a ++ b) ≡ kept (kept h a) b
+kept_append : (h a b : List ℕ) → kept h (a ++ b) ≡ kept (kept h a) b
 kept_append h [] b = refl
 kept_append h (c ∷ cs) b =
     elim (eqb c 10) as (λ t. cond t (kept [] (cs ++ b)) (kept (take 81 (h ++ c ∷ [])) (cs ++ b)) ≡ kept (cond t (kept [] cs) (kept (take 81 (h ++ c ∷ [])) cs)) b)
@@ -32,9 +31,9 @@ abbrev before : List ℕ → List (List ℕ) → List (List ℕ)
 before h [] = h ∷ []
 before h (f ∷ fs) = (h ++ f) ∷ fs
 
-before_onto : (h : List ℕ) (b : ℕ) (gs : List (List ℕ)) → before (h ++ b ∷ []) gs ≡ before h (onto b gs)
-before_onto h b [] = refl
-before_onto h b (f ∷ fs) = ap (λ (l : List ℕ). l ∷ fs) (append_assoc h (b ∷ []) f)
+before_onto_first : (h : List ℕ) (b : ℕ) (gs : List (List ℕ)) → before (h ++ b ∷ []) gs ≡ before h (onto_first b gs)
+before_onto_first h b [] = refl
+before_onto_first h b (f ∷ fs) = ap (λ (l : List ℕ). l ∷ fs) (append_assoc h (b ∷ []) f)
 
 before_none : (bs : List ℕ) → before [] (parted 10 bs) ≡ parted 10 bs
 before_none bs = let h = headed 10 bs in ap (before []) h.2 ∙ sym h.2
@@ -53,28 +52,28 @@ take_twice (suc n) (y ∷ h) x = ap (λ (l : List ℕ). y ∷ l) (take_twice n h
 fed_lines : (h bs : List ℕ) → fed (take 81 h) bs ≡ map (take 81) (but_last (before h (parted 10 bs)))
 fed_lines h [] = refl
 fed_lines h (b ∷ bs) =
-    elim (eqb b 10) as (λ t. cond t (take 81 h ∷ fed [] bs) (fed (take 81 (take 81 h ++ b ∷ [])) bs) ≡ map (take 81) (but_last (before h (cond t ([] ∷ parted 10 bs) (onto b (parted 10 bs)))))) [
+    elim (eqb b 10) as (λ t. cond t (take 81 h ∷ fed [] bs) (fed (take 81 (take 81 h ++ b ∷ [])) bs) ≡ map (take 81) (but_last (before h (cond t ([] ∷ parted 10 bs) (onto_first b (parted 10 bs)))))) [
       | true ↦
           ap (λ (l : List ℕ). take 81 l ∷ fed [] bs) (sym (append-nil h)) ∙
           ap (λ (ls : List (List ℕ)). take 81 (h ++ []) ∷ ls) (fed_lines [] bs ∙ ap (λ (gs : List (List ℕ)). map (take 81) (but_last gs)) (before_none bs)) ∙
           ap (map (take 81)) (sym (but_last_more (h ++ []) bs))
       | false ↦
           ap (λ (l : List ℕ). fed l bs) (take_twice 81 h (b ∷ [])) ∙ fed_lines (h ++ b ∷ []) bs ∙
-          ap (λ (gs : List (List ℕ)). map (take 81) (but_last gs)) (before_onto h b (parted 10 bs))
+          ap (λ (gs : List (List ℕ)). map (take 81) (but_last gs)) (before_onto_first h b (parted 10 bs))
     ]
 
 kept_rest : (h bs : List ℕ) → kept (take 81 h) bs ≡ take 81 (last_part (before h (parted 10 bs)))
 kept_rest h [] = ap (take 81) (sym (append-nil h))
 kept_rest h (b ∷ bs) =
-    elim (eqb b 10) as (λ t. cond t (kept [] bs) (kept (take 81 (take 81 h ++ b ∷ [])) bs) ≡ take 81 (last_part (before h (cond t ([] ∷ parted 10 bs) (onto b (parted 10 bs)))))) [
+    elim (eqb b 10) as (λ t. cond t (kept [] bs) (kept (take 81 (take 81 h ++ b ∷ [])) bs) ≡ take 81 (last_part (before h (cond t ([] ∷ parted 10 bs) (onto_first b (parted 10 bs)))))) [
       | true ↦ kept_rest [] bs ∙ ap (λ (gs : List (List ℕ)). take 81 (last_part gs)) (before_none bs) ∙ ap (take 81) (sym (last_part_more (h ++ []) bs))
       | false ↦
           ap (λ (l : List ℕ). kept l bs) (take_twice 81 h (b ∷ [])) ∙ kept_rest (h ++ b ∷ []) bs ∙
-          ap (λ (gs : List (List ℕ)). take 81 (last_part gs)) (before_onto h b (parted 10 bs))
+          ap (λ (gs : List (List ℕ)). take 81 (last_part gs)) (before_onto_first h b (parted 10 bs))
     ]
 
 -- from the start, these are the lines of the input
-pub whole_lines : (bs : List ℕ) → (fed [] bs ≡ lines_of bs) × (kept [] bs ≡ rest_of bs)
+whole_lines : (bs : List ℕ) → (fed [] bs ≡ lines_of bs) × (kept [] bs ≡ rest_of bs)
 whole_lines bs = (fed_lines [] bs ∙ ap (λ (gs : List (List ℕ)). map (take 81) (but_last gs)) (before_none bs), kept_rest [] bs ∙ ap (λ (gs : List (List ℕ)). take 81 (last_part gs)) (before_none bs))
 
 -- what was fed before has left its rest

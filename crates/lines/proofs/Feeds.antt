@@ -1,8 +1,8 @@
 -- A turn of `feed`.
-use Rattle.std.proofs.Common.{◌≡◌, ℕ, ◌+◌, ◌<◌, ◌≤◌, eqb, List, [], ◌∷◌, ◌++◌, length, get_or, take, drop, sym, refl, ap, ◌∙◌, subst, append_assoc, append-nil, arith}
+use Rattle.std.proofs.Common.{◌≡◌, ℕ, ◌+◌, ◌<◌, ◌≤◌, ⊎_elim, lit≤, eqb, List, [], ◌∷◌, ◌++◌, length, get_or, take, drop, sym, refl, ap, ◌∙◌, subst, append_assoc, append-nil, arith}
 use Rattle.std.specs.List.{FoldsTo}
-use Rattle.std.proofs.lemmas.List.{at_drop_more, at_drop_all}
-use Rattle.std.proofs.lemmas.Bool.{cond-true, cond-false, eq-eqb, ne_eqb}
+use Rattle.std.proofs.lemmas.List.{at_drop_more, at_drop_all, length-take}
+use Rattle.std.proofs.lemmas.Bool.{cases_Bool, cond-true, cond-false, eq-eqb, ne_eqb}
 use Rattle.lines.specs.Feeding.{fed, kept}
 use Rattle.lines.specs.Lines.{if_some}
 
@@ -22,7 +22,7 @@ module _ {S : Type 0} (handled : S → List ℕ → S → Type 0) where
   starts s h chunk = record { lines = []; calls = refl; ahead = refl; rest = refl }
 
   module _ (first : S) (h₀ chunk : List ℕ) (i : ℕ) (at : S) (h : List ℕ) (so : Sofar handled first h₀ chunk i at h) where
-    pub line_more : (next : S) (h' : List ℕ) → i < length chunk → get_or chunk i 0 ≡ 10 → handled at h next → h' ≡ [] → Sofar handled first h₀ chunk (i + 1) next h'
+    line_more : (next : S) (h' : List ℕ) → i < length chunk → get_or chunk i 0 ≡ 10 → handled at h next → h' ≡ [] → Sofar handled first h₀ chunk (i + 1) next h'
     line_more next h' lt feed t none =
         subst (Sofar handled first h₀ chunk (i + 1) next) (sym none)
         (record {
@@ -37,7 +37,7 @@ module _ {S : Type 0} (handled : S → List ℕ → S → Type 0) where
     line_came next last ℓ h' lt feed t same is none =
         line_more next h' lt feed (subst (λ (z : S). handled at h z) (sym is) (subst (λ (l : List ℕ). handled at l last) same t)) none
 
-    pub byte_more : (h' : List ℕ) → i < length chunk → (get_or chunk i 0 ≡ 10 → ⊥) → h' ≡ take 81 (h ++ get_or chunk i 0 ∷ []) → Sofar handled first h₀ chunk (i + 1) at h'
+    byte_more : (h' : List ℕ) → i < length chunk → (get_or chunk i 0 ≡ 10 → ⊥) → h' ≡ take 81 (h ++ get_or chunk i 0 ∷ []) → Sofar handled first h₀ chunk (i + 1) at h'
     byte_more h' lt other is =
         subst (Sofar handled first h₀ chunk (i + 1) at) (sym is)
         (record {
@@ -67,3 +67,12 @@ module _ {S : Type 0} (handled : S → List ℕ → S → Type 0) where
   pub one_left : (s t : S) (ℓ h : List ℕ) → (length h ≡ 0 → ⊥) → ℓ ≡ h → handled s ℓ t → FoldsTo handled s (if_some h) t
   one_left s t ℓ [] some same step = absurd (some refl)
   one_left s t ℓ (b ∷ bs) some same step = (t, subst (λ (l : List ℕ). handled s l t) same step, refl)
+
+-- what is held is never more than 81 bytes
+pub kept_short : (h bs : List ℕ) → length h ≤ 81 → length (kept h bs) ≤ 81
+kept_short h [] l = l
+kept_short h (b ∷ bs) l =
+    ⊎_elim
+    (λ t. subst (λ ks. length ks ≤ 81) (sym (cond-true (eqb b 10) _ _ t)) (kept_short [] bs (lit≤ tt)))
+    (λ f. subst (λ ks. length ks ≤ 81) (sym (cond-false (eqb b 10) _ _ f)) (kept_short (take 81 (h ++ b ∷ [])) bs (let e = length-take 81 (h ++ b ∷ []) in omega arith)))
+    (cases_Bool (eqb b 10))

@@ -1,10 +1,19 @@
 // The line that is being read: its bytes so far, of which the first 81 are kept.
-ghost use Rattle.std.specs.Prelude.{◌≡◌, ◌≤◌, length};
+use arrayvec::ArrayVec;
+use std::marker::Model;
 
+// Contracts see the bytes.
 #[derive(Drop)]
 pub struct LineBuffer {
-    pub(crate) bytes: [u8; 81],
-    pub(crate) len: usize,
-    ghost wide: { length bytes ≡ 81 },
-    ghost within: { len ≤ 81 },
+    pub(crate) bytes: ArrayVec<u8, 81>,
+}
+
+impl Model for LineBuffer {
+    ghost use Rattle.std.specs.Prelude.{ℕ, ◌≤◌, List, length};
+
+    ghost Value = { List ℕ };
+
+    ghost view = { λ b. b.bytes.items };
+
+    ghost invariant = { λ b. length b.bytes.items ≤ 81 };
 }

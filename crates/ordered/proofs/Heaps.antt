@@ -5,9 +5,6 @@ use Rattle.std.proofs.lemmas.Bool.{cases_eq}
 use Rattle.std.proofs.lemmas.List.Edits.{Swapped}
 use Rattle.ordered.specs.Heaps.{up, Heaped, Members, Near, Above, Under}
 
-up_below : (j : ℕ) → 0 < j → up j < j
-up_below j h = omega arith
-
 -- a test at other entries
 pub at_entries : (lt : ℕ → ℕ → Bool) {a b c d : ℕ} {t : Bool} → a ≡ c → b ≡ d → lt c d ≡ t → lt a b ≡ t
 at_entries lt p q h = cc
@@ -86,10 +83,6 @@ module _ (lt : ℕ → ℕ → Bool) (o : IsStrictWeakOrder lt) (f g : ℕ → �
 
   pub sink_end : (i : ℕ) → Near lt f n i × Under lt f i → Above lt f n i → Heaped lt f n
   sink_end i inv above = rise_end i (inv.0, above) inv.1
-
-  -- what is before the entry above it comes before none below it
-  pub settle_rise : (i : ℕ) → 0 < i → Near lt f n i → lt (f i) (f (up i)) ≡ true → Above lt f n i
-  settle_rise i pos near less j p l e = chained _ _ _ (near.1 j p l e pos) (o.one_way _ _ less)
 
   -- the root comes after none
   pub root_least : Heaped lt f n → ((x : ℕ) → lt x x ≡ false) → (fuel j : ℕ) → j < fuel → j < n → lt (f j) (f 0) ≡ false

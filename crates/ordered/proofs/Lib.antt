@@ -2,4 +2,3 @@ pub mod Heaps
 pub mod Changes
 pub mod Tallies
 pub mod Agendas
-pub mod Sounds

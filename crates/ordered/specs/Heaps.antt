@@ -1,6 +1,9 @@
 -- A binary heap of numbers: the entry at each index, and how many entries count. Assumes nothing.
-use Rattle.std.specs.Prelude.{◌≡◌, ℕ, suc, ◌-◌, ◌/◌, ◌<◌, Bool, true, false, List, [], ◌∷◌, Some, None, Option, ◌≢◌, slice_index}
+use Rattle.std.specs.Prelude.{◌≡◌, ℕ, ◌-◌, ◌/◌, ◌<◌, Bool, true, false, List, length, Option, ◌≢◌, slice_index}
+use Rattle.std.specs.List.{count_by}
+use Rattle.std.specs.Option.{is_some}
 use Rattle.holders.specs.declared.key.Key.{Key}
+use Rattle.holders.specs.Keys.{keyed, sooner}
 
 -- the index above another in the heap
 abbrev pub up : ℕ → ℕ
@@ -8,9 +11,7 @@ up j = (j - 1) / 2
 
 -- how many places bear a key
 abbrev pub tally : List (Option Key) → ℕ
-tally [] = 0
-tally (None ∷ ks) = tally ks
-tally (Some k ∷ ks) = suc (tally ks)
+tally ks = count_by is_some ks
 
 abbrev pub at : List ℕ → ℕ → ℕ
 at row i = slice_index row i
@@ -46,3 +47,15 @@ Above lt f n i = (j : ℕ) → 0 < j → j < n → up j ≡ i → lt (f j) (f i)
 -- the entry at i does not come before the one above it
 abbrev pub Under : (ℕ → ℕ → Bool) → (ℕ → ℕ) → ℕ → Type 0
 Under lt f i = 0 < i → lt (f i) (f (up i)) ≡ false
+
+-- the entries of the row are the keyed places, each once
+abbrev pub Entered : List (Option Key) → List ℕ → Type 0
+Entered ks row = Members (keyed ks) (at row) (length row)
+
+-- no entry of the row comes before the one above it
+abbrev pub InOrder : List (Option Key) → List ℕ → Type 0
+InOrder ks row = Heaped (sooner ks) (at row) (length row)
+
+-- the same but for the index i
+abbrev pub InOrderBut : List (Option Key) → List ℕ → ℕ → Type 0
+InOrderBut ks row i = Near (sooner ks) (at row) (length row) i

@@ -1,10 +1,12 @@
 // An agenda of sixty-four places, whose keyed ones stand in a binary heap.
-ghost use Rattle.std.specs.Prelude.{◌≡◌, ◌<◌, true, false, length, replicate, Some, None, slice_set};
-ghost use Rattle.holders.specs.Keys.{keyed, sooner};
-ghost use Rattle.ordered.specs.Heaps.{tally, at, Heaped, Inside, Once, Whole};
-ghost use Rattle.std.proofs.Common.{rules, arith};
+ghost use Rattle.std.specs.Prelude.{◌≡◌, ◌<◌, true, false, replicate, Some, None, slice_set};
+ghost use Rattle.arrayvec.specs.ArrayVec.{array_vec_len};
+ghost use Rattle.holders.specs.Keys.{keyed};
+ghost use Rattle.ordered.specs.Heaps.{tally, Entered, InOrder};
+ghost use Rattle.std.proofs.Common.{rules};
 
-use crate::heap::{position, rise, settle};
+use crate::heap::{index_of, rise, settle};
+use arrayvec::ArrayVec;
 use holders::agenda::Agenda;
 use holders::holder::Holder;
 use holders::key::Key;
@@ -14,14 +16,10 @@ use holders::table::TableAgenda;
 #[derive(Drop)]
 pub struct OrderedAgenda {
     table: TableAgenda,
-    entries: [u32; 64],
-    count: usize,
-    ghost wide: { length entries ≡ 64 },
-    ghost tallied: { count ≡ tally table.keys },
-    ghost inside: { Inside (keyed table.keys) (at entries) count },
-    ghost once: { Once (at entries) count },
-    ghost whole: { Whole (keyed table.keys) (at entries) count },
-    ghost heaped: { Heaped (sooner table.keys) (at entries) count },
+    entries: ArrayVec<u32, 64>,
+    ghost tallied: { array_vec_len entries ≡ tally table.keys },
+    ghost entered: { Entered table.keys entries.items },
+    ghost in_order: { InOrder table.keys entries.items },
 }
 
 impl OrderedAgenda {
@@ -31,8 +29,7 @@ impl OrderedAgenda {
     {
         OrderedAgenda {
             table: TableAgenda::new(),
-            entries: [0; 64],
-            count: 0,
+            entries: ArrayVec::new(),
         }
     }
 
@@ -42,14 +39,11 @@ impl OrderedAgenda {
         ensures same { self.new.table.numbers ≡ self.old.table.numbers }
         ensures changed { self.new.table.keys ≡ slice_set self.old.table.keys p None }
     {
-        let i = position(&self.entries, self.count, p);
-        let last = self.count - 1;
-        let moved = self.entries[last];
+        let i = index_of(&self.entries, p).unwrap();
         self.table.unkey(p);
-        self.entries[i] = moved;
-        self.count = last;
-        if i < last {
-            settle(&mut self.entries, &self.table, last, i);
+        self.entries.swap_remove(i);
+        if i < self.entries.len() {
+            settle(&mut self.entries, &self.table, i);
         }
     }
 
@@ -60,30 +54,25 @@ impl OrderedAgenda {
         ensures same { self.new.table.numbers ≡ self.old.table.numbers }
         ensures changed { self.new.table.keys ≡ slice_set self.old.table.keys p (Some key) }
     {
-        let last = self.count;
+        let last = self.entries.len();
         self.table.key_place(p, key);
-        self.entries[last] = p;
-        self.count = last + 1;
-        rise(&mut self.entries, &self.table, last + 1, last);
+        self.entries.push(p);
+        rise(&mut self.entries, &self.table, last);
     }
 }
 
 impl Holder for OrderedAgenda {
     const PLACES: u32 = 64;
 
-    ghost places = { 64 };
+    ghost PLACES = { 64 };
 
     ghost row = { λ a. a.table.numbers };
 
-    ghost some = { first_of (Prim.search rules, Prim.grind (arith, Self.row.coded.inj)) };
+    ghost some = { Prim.search rules };
 
-    ghost few = { first_of (Prim.search rules, Prim.grind (arith, Self.row.coded.inj)) };
+    ghost few = { Prim.search rules };
 
-    ghost long = { first_of (Prim.search rules, Prim.grind (arith, Self.row.coded.inj)) };
-
-    fn count() -> u32 {
-        Self::PLACES
-    }
+    ghost long = { λ a. a.table.wide };
 
     fn get(&self, i: u32) -> u32 {
         self.table.get(i)
@@ -101,7 +90,7 @@ impl Holder for OrderedAgenda {
 impl Agenda for OrderedAgenda {
     ghost keys = { λ a. a.table.keys };
 
-    ghost keyed = { first_of (Prim.search rules, Prim.grind (arith, Self.row.coded.inj)) };
+    ghost keyed = { λ a. a.table.deep };
 
     fn write(&mut self, i: u32, v: u32) {
         self.put(i, v);
@@ -111,24 +100,22 @@ impl Agenda for OrderedAgenda {
         self.table.key(i)
     }
 
+    #[tactic(auto, using(crate::proofs::Tallies::rekeyed))]
     fn key_place(&mut self, i: u32, key: Key) {
-        if i < 64 {
-            if self.key(i).is_some() {
-                self.take_out(i);
-            }
+        if i < Self::count() {
+            self.unkey(i);
             self.bring_in(i, key);
         }
     }
 
     fn unkey(&mut self, i: u32) {
-        if self.key(i).is_none() {
-            return;
+        if self.key(i).is_some() {
+            self.take_out(i);
         }
-        self.take_out(i);
     }
 
     fn first(&self) -> u32 {
-        if self.count == 0 { 64 } else { self.entries[0] }
+        self.entries.first().copied().unwrap_or(Self::count())
     }
 
     fn spare(&self) -> u32 {

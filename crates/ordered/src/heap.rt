@@ -1,7 +1,9 @@
 // A binary heap of places, by their keys: steps on its entries.
-ghost use Rattle.std.specs.Prelude.{◌≡◌, ℕ, ◌+◌, ◌*◌, ◌<◌, ◌≤◌, false, length, ◌≢◌};
-ghost use Rattle.holders.specs.Keys.{keyed, sooner};
-ghost use Rattle.ordered.specs.Heaps.{up, at, Heaped, Members, Near, Above, Under};
+// By hand, since std's BinaryHeap allocates and takes out its first entry alone. An index goes along a branch of the heap, so `while` and no range.
+// The clauses speak of the two parts of an agenda: these steps run while the agenda's own invariant does not hold.
+ghost use Rattle.std.specs.Prelude.{◌≡◌, ℕ, ◌+◌, ◌*◌, ◌<◌, ◌==◌, false, length, position};
+ghost use Rattle.holders.specs.Keys.{sooner};
+ghost use Rattle.ordered.specs.Heaps.{up, at, Above, Entered, InOrder, InOrderBut, Under};
 
 use holders::agenda::Agenda;
 use holders::table::TableAgenda;
@@ -13,41 +15,26 @@ pub(crate) fn ahead(table: &TableAgenda, p: u32, q: u32) -> bool
 {
     let one = table.key(p);
     let other = table.key(q);
-    if one.precedes(other) {
-        true
-    } else if other.precedes(one) {
-        false
-    } else {
-        p < q
-    }
+    one.precedes(other) || (!other.precedes(one) && p < q)
 }
 
-// The index of the place p in the entries, or the count.
-pub(crate) fn position(entries: &[u32], count: usize, p: u32) -> usize
-    requires { count ≤ length entries.now }
-    ensures within { result ≤ count }
-    ensures before { (k : ℕ) → k < result → at entries.now k ≢ p }
-    ensures found { result < count → at entries.now result ≡ p }
+// The index of the place p in the entries.
+pub(crate) fn index_of(entries: &[u32], p: u32) -> Option<usize>
+    ensures { result ≡ position (λ entry. entry == p) entries.now }
 {
-    for i in 0..count {
-        if entries[i] == p {
-            return i;
-        }
-    }
-    count
+    entries.iter().position(|entry| *entry == p)
 }
 
 // The index below i whose entry comes first.
-pub(crate) fn lesser(entries: &[u32], table: &TableAgenda, count: usize, i: usize) -> usize
-    requires room { count ≤ length entries.now }
-    requires below { 2 * i + 1 < count }
-    ensures within { result < count }
+pub(crate) fn lesser(entries: &[u32], table: &TableAgenda, i: usize) -> usize
+    requires { 2 * i + 1 < length entries.now }
+    ensures within { result < length entries.now }
     ensures under { (0 < result) × (up result ≡ i) }
-    ensures least { (j : ℕ) → 0 < j → j < count → up j ≡ i → sooner table.now.keys (at entries.now j) (at entries.now result) ≡ false }
+    ensures least { (j : ℕ) → 0 < j → j < length entries.now → up j ≡ i → sooner table.now.keys (at entries.now j) (at entries.now result) ≡ false }
 {
     let left = 2 * i + 1;
     let right = left + 1;
-    if right < count && ahead(table, entries[right], entries[left]) {
+    if right < entries.len() && ahead(table, entries[right], entries[left]) {
         right
     } else {
         left
@@ -55,13 +42,12 @@ pub(crate) fn lesser(entries: &[u32], table: &TableAgenda, count: usize, i: usiz
 }
 
 // Moves the entry at i up until it is in order.
-pub(crate) fn rise(entries: &mut [u32], table: &TableAgenda, count: usize, start: usize)
-    requires room { count ≤ length entries.old }
-    requires entry { start < count }
-    requires members { Members (keyed table.now.keys) (at entries.old) count }
-    requires near { Near (sooner table.now.keys) (at entries.old) count start × Above (sooner table.now.keys) (at entries.old) count start }
-    ensures members { Members (keyed table.now.keys) (at entries.new) count }
-    ensures heaped { Heaped (sooner table.now.keys) (at entries.new) count }
+pub(crate) fn rise(entries: &mut [u32], table: &TableAgenda, start: usize)
+    requires entry { start < length entries.old }
+    requires entered { Entered table.now.keys entries.old }
+    requires near { InOrderBut table.now.keys entries.old start × Above (sooner table.now.keys) (at entries.old) (length entries.old) start }
+    ensures entered { Entered table.now.keys entries.new }
+    ensures in_order { InOrder table.now.keys entries.new }
 {
     let mut i = start;
     while i > 0 {
@@ -75,17 +61,16 @@ pub(crate) fn rise(entries: &mut [u32], table: &TableAgenda, count: usize, start
 }
 
 // Moves the entry at i down until it is in order.
-pub(crate) fn sink(entries: &mut [u32], table: &TableAgenda, count: usize, start: usize)
-    requires room { count ≤ length entries.old }
-    requires entry { start < count }
-    requires members { Members (keyed table.now.keys) (at entries.old) count }
-    requires near { Near (sooner table.now.keys) (at entries.old) count start × Under (sooner table.now.keys) (at entries.old) start }
-    ensures members { Members (keyed table.now.keys) (at entries.new) count }
-    ensures heaped { Heaped (sooner table.now.keys) (at entries.new) count }
+pub(crate) fn sink(entries: &mut [u32], table: &TableAgenda, start: usize)
+    requires entry { start < length entries.old }
+    requires entered { Entered table.now.keys entries.old }
+    requires near { InOrderBut table.now.keys entries.old start × Under (sooner table.now.keys) (at entries.old) start }
+    ensures entered { Entered table.now.keys entries.new }
+    ensures in_order { InOrder table.now.keys entries.new }
 {
     let mut i = start;
-    while 2 * i + 1 < count {
-        let below = lesser(entries, table, count, i);
+    while 2 * i + 1 < entries.len() {
+        let below = lesser(entries, table, i);
         if !ahead(table, entries[below], entries[i]) {
             return;
         }
@@ -95,17 +80,16 @@ pub(crate) fn sink(entries: &mut [u32], table: &TableAgenda, count: usize, start
 }
 
 // Moves the entry at i, which may be wrong both ways, to where it is in order.
-pub(crate) fn settle(entries: &mut [u32], table: &TableAgenda, count: usize, i: usize)
-    requires room { count ≤ length entries.old }
-    requires entry { i < count }
-    requires members { Members (keyed table.now.keys) (at entries.old) count }
-    requires near { Near (sooner table.now.keys) (at entries.old) count i }
-    ensures members { Members (keyed table.now.keys) (at entries.new) count }
-    ensures heaped { Heaped (sooner table.now.keys) (at entries.new) count }
+pub(crate) fn settle(entries: &mut [u32], table: &TableAgenda, i: usize)
+    requires entry { i < length entries.old }
+    requires entered { Entered table.now.keys entries.old }
+    requires near { InOrderBut table.now.keys entries.old i }
+    ensures entered { Entered table.now.keys entries.new }
+    ensures in_order { InOrder table.now.keys entries.new }
 {
     if i > 0 && ahead(table, entries[i], entries[(i - 1) / 2]) {
-        rise(entries, table, count, i);
+        rise(entries, table, i);
     } else {
-        sink(entries, table, count, i);
+        sink(entries, table, i);
     }
 }

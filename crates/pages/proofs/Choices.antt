@@ -1,12 +1,12 @@
 -- The choices obey their laws.
 use Rattle.std.proofs.Common.{◌≡◌, ℕ, zero, suc, ◌+◌, ◌<◌, Bool, true, false, cond, not, ◌&&◌, eqb, ltb, leb, List, [], ◌∷◌, length, get_or, Some, None, Option, sym, refl, ap, ◌∙◌, subst, inl, inr, arith}
-use Rattle.std.proofs.lemmas.Bool.{and_parts, and_from, both_ways, eqb-true, eq-eqb, ne_eqb, ltb-true, lt-ltb}
+use Rattle.std.proofs.lemmas.Bool.{and_parts, and_from, both_ways, eqb-true, eq-eqb, ltb-true, lt-ltb}
 use Rattle.model.specs.Classes.{fitting}
 use Rattle.model.specs.Maps.{has}
 use Rattle.model.specs.Pages.{Page, uncut, page_at, in_class, free, occupied, is_uncut, first_page}
 use Rattle.model.specs.Units.{source_page, target_page, free_of_class}
 use Rattle.model.specs.Making.{page_to_take, or_else}
-use Rattle.pages.specs.Choices.{movable, Takes, ChosenPage, Before, Source, Target, Sourced, room_for}
+use Rattle.pages.specs.Choices.{movable, Takes, ChosenPage, Before, Source, Target, Sourced}
 use Rattle.pages.proofs.Least.{least_found, least_first, least_none}
 
 no_some : {A : Type 0} {B : Type 0} (x : A) → ◌≡◌ {A = Option A} None (Some x) → B
@@ -164,12 +164,5 @@ sourced ps size targets (Some g) e = (movable_law ps size targets g (sym e)).1
 -- ---- room for so many words
 
 module _ (ps : List Page) (words size : ℕ) (is : size ≡ fitting words) where
-  pub room_unsized : size ≡ 0 → room_for ps words ≡ None
-  room_unsized z = ap (λ (b : Bool). cond b None (page_to_take ps (fitting words))) (eq-eqb (fitting words) 0 (sym is ∙ z))
-
-  pub room_is : (size ≡ 0 → ⊥) → (r : Option ℕ) → r ≡ page_to_take ps size → room_for ps words ≡ r
-  room_is ne r e =
-      ap (λ (b : Bool). cond b None (page_to_take ps (fitting words))) (ne_eqb (fitting words) 0 (λ z. ne (is ∙ z))) ∙ sym (ap (page_to_take ps) is) ∙ sym e
-
   pub chosen_at : (r : Option ℕ) → r ≡ page_to_take ps size → ChosenPage ps (fitting words) r
   chosen_at r e = let P : ℕ → Type 0 = λ z. ChosenPage ps z r in subst P is (chosen_page ps size r e)

@@ -1,6 +1,8 @@
 -- The least page by a figure: it is found, it is least, and the least candidate of a row is that page.
-use Rattle.std.proofs.Common.{◌≡◌, ℕ, zero, suc, ◌+◌, ◌<◌, ◌≤◌, Bool, true, false, cond, ltb, leb, List, [], ◌∷◌, length, get_or, Some, None, Option, sym, refl, ap, ◌∙◌, subst, ap₂, inl, inr, arith}
+use Rattle.std.proofs.Common.{◌≡◌, ℕ, zero, suc, ◌+◌, ◌<◌, ◌≤◌, Bool, true, false, cond, ltb, leb, List, [], ◌∷◌, map, length, get_or, Some, None, Option, sym, refl, ap, ◌∙◌, subst, ap₂, inl, inr, arith}
+use Rattle.std.specs.List.{range_with_len}
 use Rattle.std.proofs.lemmas.List.{get_or_default}
+use Rattle.std.proofs.lemmas.List.FromFn.{length-map-range_with_len, get_or-map-range_with_len}
 use Rattle.std.proofs.lemmas.Bool.{cases_Bool, cases_lt, both_ways, leb-true, leb-false, lt-leb, le-leb, ltb-true, ltb-false, le-ltb}
 use Rattle.ranking.specs.declared.candidate.Candidate.{Candidate}
 use Rattle.ranking.specs.Orders.{none_last, least_place}
@@ -8,7 +10,7 @@ use Rattle.ranking.specs.Candidates.{candidate_before}
 use Rattle.ranking.proofs.Leasts.{least_within}
 use Rattle.model.specs.Pages.{Page, uncut, page_at}
 use Rattle.model.specs.Units.{lesser, least_page}
-use Rattle.pages.specs.Choices.{candidate_of, pair_of, least_candidate, Before}
+use Rattle.pages.specs.Choices.{candidate_at, pair_of, least_candidate, least_figure, Before}
 
 no_some : {A : Type 0} {B : Type 0} (x : A) → ◌≡◌ {A = Option A} None (Some x) → B
 no_some x e = let z : ◌≡◌ {A = ℕ} 0 1 = cc in absurd (omega arith)
@@ -152,11 +154,15 @@ joined (Some c) (Some d) h =
           ∙ sym (ap (either_of d c) (le-leb c.figure d.figure (ltb-false d.figure c.figure e)))
     ]
 
+-- a page that counts is a candidate by its figure
+abbrev candidate_of : Bool → ℕ → ℕ → Option Candidate
+candidate_of counts figure page = cond counts (Some (record { figure = figure; number = page })) None
+
 pair_is : (t : Bool) (v a : ℕ) → pair_of (candidate_of t v a) ≡ cond t (Some (v, a)) None
 pair_is true v a = refl
 pair_is false v a = refl
 
-pub number_is : (t : Bool) (v a : ℕ) (c : Candidate) → candidate_of t v a ≡ Some c → c.number ≡ a
+number_is : (t : Bool) (v a : ℕ) (c : Candidate) → candidate_of t v a ≡ Some c → c.number ≡ a
 number_is true v a c e =
     let F : Option Candidate → ℕ = number_or in sym (ap F e)
   where
@@ -213,8 +219,23 @@ module _ (f : ℕ → Page → Bool) (m : Page → ℕ) where
   row_all (p ∷ ps) [] n h = absurd (omega arith)
   row_all (p ∷ ps) (x ∷ xs) n h = row_is 0 p ps x xs (omega arith) h
 
-  pub least_row : (ps : List Page) (row : List (Option Candidate)) → length row ≡ length ps
+  least_row : (ps : List Page) (row : List (Option Candidate)) → length row ≡ length ps
       → ((k : ℕ) → k < length ps → get_or row k None ≡ candidate_of (f k (page_at ps k)) (m (page_at ps k)) k) → least_candidate row ≡ least_page f m 0 ps
   least_row ps row n h =
       row_all ps row n
       (λ k l. let z : k ≡ 0 + k = omega arith in h k l ∙ ap (λ (i : ℕ). candidate_of (f i (page_at ps k)) (m (page_at ps k)) i) z)
+
+  -- the least page by the figures of the pages that pass
+  pub least_figures : (ps : List Page) (h : ℕ → Option ℕ) → length ps ≡ 64
+      → ((k : ℕ) → k < 64 → h k ≡ cond (f k (page_at ps k)) (Some (m (page_at ps k))) None) → least_figure h ≡ least_page f m 0 ps
+  least_figures ps h n is =
+      let row : List (Option Candidate) = map (λ k. candidate_at (h k) k) (range_with_len 0 64) in
+      let long : length row ≡ 64 = length-map-range_with_len (λ k. candidate_at (h k) k) 0 64 in
+      least_row ps row (long ∙ sym n)
+      (λ k l.
+      get_or-map-range_with_len (λ k. candidate_at (h k) k) 0 64 k k None (omega arith) (omega arith)
+      ∙ ap (λ (o : Option ℕ). candidate_at o k) (is k (omega arith)) ∙ counted (f k (page_at ps k)) (m (page_at ps k)) k)
+    where
+      counted : (t : Bool) (v k : ℕ) → candidate_at (cond t (Some v) None) k ≡ candidate_of t v k
+      counted true v k = refl
+      counted false v k = refl

@@ -1,18 +1,24 @@
 -- The view of all pages: reading one page, and changing one.
-use Rattle.std.proofs.Common.{◌≡◌, ℕ, zero, suc, ◌+◌, ◌/◌, ◌<◌, ◌≤◌, Bool, true, false, cond, not, ◌&&◌, eqb, List, [], ◌∷◌, length, get_or, drop, set, replicate, Some, None, sym, refl, ap, ◌∙◌, subst, ap₂, inl, inr, add-one, arith, length-set, get_or-set_other, get_or-set_same}
+use Rattle.std.proofs.Common.{◌≡◌, ℕ, zero, suc, ◌+◌, ◌/◌, ◌<◌, ◌≤◌, Bool, true, false, cond, not, ◌&&◌, eqb, ltb, List, [], ◌∷◌, length, get_or, drop, set, replicate, Some, None, Option, sym, refl, ap, ◌∙◌, subst, ap₂, inl, inr, add-one, arith, length-set, get_or-set_other, get_or-set_same}
+use Rattle.std.specs.List.{filter, position_from}
 use lib.ListN.{get_or-replicate, length-replicate}
 use lib.Seq.{set-get_or}
-use Rattle.std.proofs.lemmas.Bool.{cases_eq, cases_lt}
+use Rattle.std.proofs.lemmas.Bool.{cases_eq, cases_lt, both_ways}
 use Rattle.std.proofs.lemmas.List.{get_or_default, get_or_past, set_past, at_drop_more, at_drop_all}
 use Rattle.model.specs.Classes.{blocks}
 use Rattle.model.specs.Maps.{has, with_flag_set}
-use Rattle.model.specs.Pages.{Page, uncut, with_closed, page_at, in_class, free, count_pages, is_uncut, first_page}
+use Rattle.model.specs.Pages.{Page, uncut, with_closed, page_at, in_class, free, occupied, count_pages, is_uncut, first_page}
 use Rattle.model.specs.Units.{free_of_class}
 use Rattle.pages.specs.declared.entry.Entry.{Entry}
 use Rattle.pages.specs.View.{region, block_of, slot_view, page_view, filled}
-use Rattle.pages.specs.Entries.{entry_view, pages_of, no_entry, entry_at, Full, NoneNew, Changed, mark_slot, mark_slot_in}
+use Rattle.pages.specs.Entries.{entry_view, pages_of, no_entry, entry_at, NoneNew, Changed, mark_slot, mark_slot_in}
+use Rattle.pages.specs.Choices.{has_room_for, entry_has_room, Low}
 use Rattle.pages.proofs.Bits.{has_past, has_within, has_none}
-use Rattle.pages.proofs.Views.{slot_at, mark_page, block_marked, view_uncut}
+use Rattle.pages.proofs.Views.{slot_at, slots_free, mark_page, block_marked, view_uncut}
+
+-- 64 entries, and the words of each page
+abbrev pub Full : List Entry → List (List ℕ) → Type 0
+Full es wss = (length es ≡ 64) × (length wss ≡ 64)
 
 pub page_is : (es : List Entry) (wss : List (List ℕ)) (g : ℕ) (p : Page) (d : Entry) → g < length es → g < length wss
     → get_or (pages_of es wss) g p ≡ entry_view (get_or es g d) (get_or wss g [])
@@ -91,46 +97,58 @@ put_none_new es g x e fewer k s = elim (cases_eq k g) [
       subst P (sym (entry_there es g e k ne)) (λ on. (on, refl))
 ]
 
-pub changed : (F : Page → Page) (es : List Entry) (g : ℕ) (x e : Entry) → g < 64
+pub changed : (F : Page → Page) (es : List Entry) (g : ℕ) (x e : Entry) → length es ≡ 64 → g < 64
     → ((ws : List ℕ) → entry_view e ws ≡ F (entry_view (get_or es g x) ws))
     → ((s : ℕ) → has e.occupied s ≡ true → (has (get_or es g x).occupied s ≡ true) × (e.size ≡ (get_or es g x).size))
     → Changed es (set es g e) g F
-changed F es g x e l same fewer = record {
+changed F es g x e n l same fewer = record {
   count = length-set es g e;
-  view = λ wss full.
-      let a = full.0 in
-      let b = full.1 in
+  view = λ wss long.
       set_entry es wss g e (omega arith)
       ∙ ap (set (pages_of es wss) g) (same (get_or wss g []) ∙ ap F (sym (page_is es wss g uncut x (omega arith) (omega arith))));
   none_new = put_none_new es g x e fewer;
 }
 
 -- past the last page nothing changes
-pub unchanged : (F : Page → Page) (es : List Entry) (g : ℕ) → 64 ≤ g → Changed es es g F
-unchanged F es g l = record {
+pub unchanged : (F : Page → Page) (es : List Entry) (g : ℕ) → length es ≡ 64 → 64 ≤ g → Changed es es g F
+unchanged F es g n l = record {
   count = refl;
-  view = λ wss full.
-      let n = pages_long es wss full in
+  view = λ wss long.
+      let k = pages_long es wss (n, long) in
       sym (set_past (pages_of es wss) g (F (page_at (pages_of es wss) g)) (omega arith));
   none_new = λ k s on. (on, refl);
 }
 
 -- ---- counts and searches over all pages
 
-pub first_step : (f : Page → Bool) (ps : List Page) (g : ℕ) → g < length ps
-    → first_page f g (drop g ps) ≡ cond (f (page_at ps g)) (Some g) (first_page f (g + 1) (drop (g + 1) ps))
-first_step f ps g h =
-    let s : first_page f g (drop g ps) ≡ cond (f (page_at ps g)) (Some g) (first_page f (suc g) (drop (g + 1) ps)) = at_drop_more (first_page f g) ps g uncut h in
-    s ∙ ap (λ (x : ℕ). cond (f (page_at ps g)) (Some g) (first_page f x (drop (g + 1) ps))) (sym (add-one g))
+-- a test of pages that does not depend on their words is a test of their entries
+module _ (f : Page → Bool) (t : Entry → Bool) (same : (e : Entry) (ws : List ℕ) → f (entry_view e ws) ≡ t e) where
+  pub first_of_pages : (a : ℕ) (es : List Entry) (wss : List (List ℕ)) → length es ≤ length wss → position_from t a es ≡ first_page f a (pages_of es wss)
+  unfolding pages_of
+  first_of_pages a [] wss h = refl
+  first_of_pages a (e ∷ es) [] h = absurd (omega arith)
+  first_of_pages a (e ∷ es) (w ∷ wss) h =
+      ap₂ (λ (b : Bool) (o : Option ℕ). cond b (Some a) o) (sym (same e w))
+      (ap (λ (i : ℕ). position_from t i es) (add-one a) ∙ first_of_pages (suc a) es wss (omega arith))
 
-pub first_end : (f : Page → Bool) (ps : List Page) (g : ℕ) → length ps ≤ g → first_page f g (drop g ps) ≡ None
-first_end f ps g h = at_drop_all (first_page f g) ps g h
+  pub place_low : (a : ℕ) (es : List Entry) → a + length es ≤ 64 → Low (position_from t a es)
+  place_low a [] h = tt
+  place_low a (e ∷ es) h = by (t e) (place_low (a + 1) es (omega arith))
+    where
+      by : (b : Bool) → Low (position_from t (a + 1) es) → Low (cond b (Some a) (position_from t (a + 1) es))
+      by true r = let l : a < 64 = omega arith in l
+      by false r = r
 
-pub pages_step : (f : Page → Bool) (ps : List Page) (g : ℕ) → g < length ps → count_pages f (drop g ps) ≡ cond (f (page_at ps g)) 1 0 + count_pages f (drop (g + 1) ps)
-pages_step f ps g h = at_drop_more (count_pages f) ps g uncut h
-
-pub pages_end : (f : Page → Bool) (ps : List Page) (g : ℕ) → length ps ≤ g → count_pages f (drop g ps) ≡ 0
-pages_end f ps g h = at_drop_all (count_pages f) ps g h
+  pub count_of_pages : (es : List Entry) (wss : List (List ℕ)) → length es ≤ length wss → length (filter t es) ≡ count_pages f (pages_of es wss)
+  unfolding pages_of
+  count_of_pages [] wss h = refl
+  count_of_pages (e ∷ es) [] h = absurd (omega arith)
+  count_of_pages (e ∷ es) (w ∷ wss) h =
+      one (t e) ∙ ap₂ (λ (b : Bool) (n : ℕ). cond b 1 0 + n) (sym (same e w)) (count_of_pages es wss (omega arith))
+    where
+      one : (b : Bool) → length (cond b (e ∷ filter t es) (filter t es)) ≡ cond b 1 0 + length (filter t es)
+      one true = omega arith
+      one false = omega arith
 
 -- the free blocks of a class, page by page
 pub free_step : (size but : ℕ) (ps : List Page) (g : ℕ) → g < length ps
@@ -148,18 +166,32 @@ free_end size but ps g h = at_drop_all (free_of_class size but g) ps g h
 pub slot_past : (e : Entry) (s : ℕ) → 64 ≤ s → has e.occupied s ≡ false
 slot_past e s l = let f = e.few in has_past e.occupied (256 / e.size) s e.below (omega arith)
 
+-- a block that is occupied is one of 64 in one of 64 pages
+pub held_low : (es : List Entry) (g s : ℕ) → length es ≡ 64 → has (entry_at es g).occupied s ≡ true → (g < 64) × (s < 64)
+held_low es g s n on = (
+  elim (cases_lt g 64) [
+    | inl l ↦ l
+    | inr l ↦
+        absurd (both_ways (has (entry_at es g).occupied s)
+        (ap (λ (e : Entry). has e.occupied s) (get_or_past es g no_entry (omega arith)) ∙ has_none s) on)
+  ],
+  elim (cases_lt s 64) [ inl l ↦ l | inr l ↦ absurd (both_ways (has (entry_at es g).occupied s) (slot_past (entry_at es g) s l) on) ],
+)
+
 -- ---- changes of a page that change nothing
 
-pub kept : (F : Page → Page) (es : List Entry) (g : ℕ) → g < 64 → ((ws : List ℕ) → entry_view (entry_at es g) ws ≡ F (entry_view (entry_at es g) ws)) → Changed es es g F
-kept F es g l same = record {
-  count = refl;
-  view = λ wss full.
-      let P : Page = page_at (pages_of es wss) g in
-      sym (ap (set (pages_of es wss) g)
-      (sym (page_of_entry es wss g full l ∙ same (get_or wss g []) ∙ ap F (sym (page_of_entry es wss g full l))))
-      ∙ set-get_or (pages_of es wss) g uncut);
-  none_new = λ k s on. (on, refl);
-}
+pub kept : (F : Page → Page) (es : List Entry) (g : ℕ) → length es ≡ 64 → ((ws : List ℕ) → entry_view (entry_at es g) ws ≡ F (entry_view (entry_at es g) ws)) → Changed es es g F
+kept F es g n same = elim (cases_lt g 64) [
+  | inl l ↦ record {
+    count = refl;
+    view = λ wss long.
+        sym (ap (set (pages_of es wss) g)
+        (sym (page_of_entry es wss g (n, long) l ∙ same (get_or wss g []) ∙ ap F (sym (page_of_entry es wss g (n, long) l))))
+        ∙ set-get_or (pages_of es wss) g uncut);
+    none_new = λ k s on. (on, refl);
+  }
+  | inr l ↦ unchanged F es g n l
+]
 
 pub unmarked_slot : (e : Entry) (ws : List ℕ) (s : ℕ) → has e.occupied s ≡ false → mark_slot (entry_view e ws) s ≡ entry_view e ws
 unfolding slot_view
@@ -174,13 +206,25 @@ module _ (es : List Entry) (wss : List (List ℕ)) (full : Full es wss) (g : ℕ
   pub page_item : page_at (pages_of es wss) g ≡ entry_view (get_or es g x) (get_or wss g [])
   page_item = let a = full.0 in let b = full.1 in page_is es wss g uncut x (omega arith) (omega arith)
 
-  pub uncut_entry : is_uncut (page_at (pages_of es wss) g) ≡ eqb (get_or es g x).size 0
+-- what an entry says of its page, whatever words that has
+module _ (e : Entry) (ws : List ℕ) where
+  pub uncut_entry : is_uncut (entry_view e ws) ≡ eqb e.size 0
   unfolding page_view
-  uncut_entry = ap is_uncut page_item
+  uncut_entry = refl
 
-  pub closed_entry : (page_at (pages_of es wss) g).closed ≡ (get_or es g x).closed
+  pub closed_entry : (entry_view e ws).closed ≡ e.closed
   unfolding page_view
-  closed_entry = ap (λ (p : Page). p.closed) page_item
+  closed_entry = refl
+
+  class_entry : (size : ℕ) → in_class size (entry_view e ws) ≡ in_class size (entry_view e [])
+  unfolding page_view
+  class_entry size = refl
+
+  pub room_entry : (size : ℕ) → has_room_for size (entry_view e ws) ≡ entry_has_room size e
+  room_entry size =
+      let a = slots_free e.size e.closed e.occupied e.marked ws e.below in
+      let b = slots_free e.size e.closed e.occupied e.marked [] e.below in
+      ap₂ (λ (x : Bool) (n : ℕ). x && ltb 0 n) (class_entry size) (a ∙ sym b)
 
 -- an entry with one more mark
 pub marked_entry : (a e : Entry) (ws : List ℕ) (s : ℕ) → has a.occupied s ≡ true → e.size ≡ a.size → e.closed ≡ a.closed → e.occupied ≡ a.occupied
@@ -199,6 +243,10 @@ marked_entry a e ws s on size closed occupied marked =
 pub closed_view : (a : Entry) (c : Bool) (ws : List ℕ) → page_view a.size c a.occupied a.marked ws ≡ with_closed (entry_view a ws) c
 unfolding page_view
 closed_view a c ws = refl
+
+-- no block of an uncut page is occupied
+pub none_used : (ws : List ℕ) → 0 ≡ occupied (entry_view no_entry ws).slots
+none_used ws = sym (ap (λ (p : Page). occupied p.slots) (view_uncut ws))
 
 -- ---- pages that are all uncut
 

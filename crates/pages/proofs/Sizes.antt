@@ -1,9 +1,10 @@
 -- The first size that holds the words is the smallest.
-use Rattle.std.proofs.Common.{◌≡◌, ℕ, zero, suc, ◌/◌, ◌<◌, ◌≤◌, Bool, true, false, cond, ◌&&◌, ltb, leb, List, [], ◌∷◌, length, get_or, Some, None, Option, sym, refl, ap, subst, arith}
-use Rattle.std.proofs.lemmas.Bool.{and_parts, leb-true, leb-false}
+use Rattle.std.proofs.Common.{◌≡◌, ℕ, zero, suc, ◌/◌, ◌<◌, ◌≤◌, Bool, true, false, cond, ◌&&◌, eqb, ltb, leb, List, [], ◌∷◌, map, find, length, get_or, Some, None, unwrap_or, sym, refl, ap, ◌∙◌, subst, arith}
+use Rattle.std.proofs.lemmas.Bool.{and_parts, leb-true, leb-false, ne_eqb, eq-eqb, eqb-true, both_ways}
+use Rattle.std.specs.Option.{option_map}
 use Rattle.model.specs.Classes.{sizes, first_fit, fitting}
 use Rattle.pages.specs.declared.class.Class.{Class}
-use Rattle.pages.specs.Classes.{class_numbered, Smallest}
+use Rattle.pages.specs.Classes.{class_numbered, size_for, Smallest}
 
 abbrev pub class_of : ℕ → Class
 class_of s = record { size = s; blocks = 256 / s }
@@ -61,6 +62,40 @@ smallest words size e =
     let f = first_is sizes words refl in
     subst P (sym e) (record { listed = f.listed; holds = f.holds; least = f.least })
 
+-- the first class of those sizes that holds the words has the size
+first_class : (ss : List ℕ) (words : ℕ) → rises ss ≡ true
+    → option_map (λ (c : Class). c.size) (find (λ c. leb words c.size) (map class_of ss)) ≡ cond (eqb (first_fit ss words) 0) None (Some (first_fit ss words))
+first_class [] words e = refl
+first_class (s ∷ ss) words e =
+    let a = and_parts (leb 1 s) (from_on s ss && rises ss) e in
+    by (leb words s) (leb-true 1 s a.0) (first_class ss words (and_parts (from_on s ss) (rises ss) a.1).1)
+  where
+    by : (t : Bool) → 1 ≤ s
+        → option_map (λ (c : Class). c.size) (find (λ c. leb words c.size) (map class_of ss)) ≡ cond (eqb (first_fit ss words) 0) None (Some (first_fit ss words))
+        → option_map (λ (c : Class). c.size) (cond t (Some (class_of s)) (find (λ c. leb words c.size) (map class_of ss)))
+        ≡ cond (eqb (cond t s (first_fit ss words)) 0) None (Some (cond t s (first_fit ss words)))
+    by true p r = sym (ap (λ (b : Bool). cond b None (Some s)) (ne_eqb s 0 (λ z. omega arith)))
+    by false p r = r
+
+pub fitting_class : (words : ℕ) → option_map (λ (c : Class). c.size) (find (λ c. leb words c.size) (map class_of sizes)) ≡ size_for words
+fitting_class words = first_class sizes words refl
+
+pub fitting_size : (words : ℕ) → unwrap_or (size_for words) 0 ≡ fitting words
+fitting_size words = at (eqb (fitting words) 0) refl
+  where
+    at : (t : Bool) → eqb (fitting words) 0 ≡ t → unwrap_or (cond t None (Some (fitting words))) 0 ≡ fitting words
+    at true e = sym (eqb-true (fitting words) 0 e)
+    at false e = refl
+
+pub size_given : (words size : ℕ) → Some size ≡ size_for words → (size ≡ fitting words) × (size ≡ 0 → ⊥)
+size_given words size e = by (eqb (fitting words) 0) refl e
+  where
+    by : (t : Bool) → eqb (fitting words) 0 ≡ t → Some size ≡ cond t None (Some (fitting words)) → (size ≡ fitting words) × (size ≡ 0 → ⊥)
+    by true q r = let z : ◌≡◌ {A = ℕ} 0 1 = cc in absurd (omega arith)
+    by false q r =
+        let is : size ≡ fitting words = cc in
+        (is, λ z. both_ways (eqb (fitting words) 0) q (eq-eqb (fitting words) 0 (sym is ∙ z)))
+
 -- every size of the table is from 4 to 32
 abbrev between : List ℕ → Bool
 between [] = true
@@ -82,13 +117,6 @@ sized words size f ne =
     subst P i.2 (size_between i.0 i.1)
 
 -- ---- a place of the table
-
-pub no_class : (k : ℕ) → None ≡ class_numbered k → (o : Option ℕ) → cond (ltb k 20) o None ≡ None
-no_class k e o = by (ltb k 20) e
-  where
-    by : (b : Bool) → None ≡ cond b (Some (class_of (get_or sizes k 0))) None → cond b o None ≡ None
-    by true q = let z : ◌≡◌ {A = ℕ} 0 1 = cc in absurd (omega arith)
-    by false q = refl
 
 pub a_class : (k : ℕ) (c : Class) → Some c ≡ class_numbered k → (ltb k 20 ≡ true) × (c.size ≡ get_or sizes k 0)
 a_class k c e = by (ltb k 20) e

@@ -11,11 +11,11 @@ use Rattle.model.specs.Pages.{Block, Page, cut, page_at, occupied, lowest_free}
 use Rattle.model.specs.Making.{ready}
 use Rattle.pages.specs.declared.entry.Entry.{Entry}
 use Rattle.pages.specs.View.{page_view, slot_view, filled, block_of, region}
-use Rattle.pages.specs.Entries.{entry_view, pages_of, entry_at, Full, Taken}
+use Rattle.pages.specs.Entries.{entry_view, pages_of, entry_at, Taken}
 use Rattle.pages.specs.Choices.{Takes, Room, ChosenPage}
 use Rattle.pages.proofs.Bits.{has_none, lowest_none}
 use Rattle.pages.proofs.Views.{slot_at, slots_used, slots_free}
-use Rattle.pages.proofs.Pages.{set_entry, entry_here, entry_there, page_of_entry}
+use Rattle.pages.proofs.Pages.{Full, set_entry, entry_here, entry_there, page_of_entry}
 
 -- ---- a page with a free block
 
@@ -99,7 +99,10 @@ lowest_cut : (n : ℕ) → 0 < n → lowest_free (replicate {A = Option Block} n
 lowest_cut zero h = absurd (omega arith)
 lowest_cut (suc n) h = refl
 
-module _ (es : List Entry) (g : ℕ) (e : Entry) (low : g < 64) (within : g < length es) where
+module _ (es : List Entry) (g : ℕ) (e : Entry) (low : g < 64) (n : length es ≡ 64) where
+  within : g < length es
+  within = omega arith
+
   -- where a block can be after the change
   new_at : (s : ℕ) → ((k : ℕ) → has e.occupied k ≡ true → (k ≡ s) ⊎ ((has (entry_at es g).occupied k ≡ true) × (e.size ≡ (entry_at es g).size)))
       → (h k : ℕ) → has (entry_at (set es g e) h).occupied k ≡ true
@@ -135,10 +138,10 @@ module _ (es : List Entry) (g : ℕ) (e : Entry) (low : g < 64) (within : g < le
         below = λ k l. absurd (omega arith);
         same_size = λ k on. absurd (both_ways (has (entry_at es g).occupied k) (off k) on);
         new = new_at 0 (λ k on. inl (one k on));
-        lowest = λ wss full. sym (ap (λ (p : Page). lowest_free p.slots) (made wss full) ∙ lowest_cut (256 / size) some);
-        view = λ wss full.
-            view_at wss full (filled (ready (page_at (pages_of es wss) g) size) 0 (block_of marked (region size (get_or wss g []) 0)))
-            (view (get_or wss g []) ∙ sym (ap (λ (p : Page). filled p 0 (block_of marked (region size (get_or wss g []) 0))) (made wss full)));
+        lowest = λ wss long. sym (ap (λ (p : Page). lowest_free p.slots) (made wss (n, long)) ∙ lowest_cut (256 / size) some);
+        view = λ wss long.
+            view_at wss (n, long) (filled (ready (page_at (pages_of es wss) g) size) 0 (block_of marked (region size (get_or wss g []) 0)))
+            (view (get_or wss g []) ∙ sym (ap (λ (p : Page). filled p 0 (block_of marked (region size (get_or wss g []) 0))) (made wss (n, long))));
       }
 
   pub taken_open : (s size : ℕ) (marked : Bool) → ((entry_at es g).size ≡ 0 → ⊥) → (entry_at es g).size ≡ size → s < 256 / size → has (entry_at es g).occupied s ≡ false
@@ -160,11 +163,11 @@ module _ (es : List Entry) (g : ℕ) (e : Entry) (low : g < 64) (within : g < le
         below = slot_below (entry_at es g) s (lowest []);
         same_size = λ k on. size-was;
         new = new_at s (λ k on. elim (cases_eq k s) [ inl q ↦ inl q | inr q ↦ inr (more k on q, size_is) ]);
-        lowest = λ wss full. lowest (get_or wss g []) ∙ sym (ap (λ (p : Page). lowest_free p.slots) (made wss full));
-        view = λ wss full.
-            view_at wss full (filled (ready (page_at (pages_of es wss) g) size) s (block_of marked (region size (get_or wss g []) s)))
+        lowest = λ wss long. lowest (get_or wss g []) ∙ sym (ap (λ (p : Page). lowest_free p.slots) (made wss (n, long)));
+        view = λ wss long.
+            view_at wss (n, long) (filled (ready (page_at (pages_of es wss) g) size) s (block_of marked (region size (get_or wss g []) s)))
             (view (get_or wss g [])
-            ∙ ap₂ (λ (p : Page) (z : ℕ). filled p s (block_of marked (region z (get_or wss g []) s))) (sym (made wss full)) size-was);
+            ∙ ap₂ (λ (p : Page) (z : ℕ). filled p s (block_of marked (region z (get_or wss g []) s))) (sym (made wss (n, long))) size-was);
       }
 
 -- ---- the room in a chosen page

@@ -1,5 +1,7 @@
 -- The choice of pages: its figures, and the laws that a choice obeys.
-use Rattle.std.specs.Prelude.{◌≡◌, ℕ, ◌<◌, ◌≤◌, Bool, true, false, cond, ◌⊎◌, List, length, Some, None, Option, ◌==◌, ◌≢◌, nat_le, nat_lt, slice_index, slice_index_or}
+use Rattle.std.specs.Prelude.{◌≡◌, ℕ, ◌<◌, ◌≤◌, Bool, true, false, cond, not, ◌&&◌, ◌⊎◌, List, [], length, map, Some, None, Option, ◌==◌, ◌≢◌, nat_le, nat_lt, slice_index, slice_index_or}
+use Rattle.std.specs.List.{range_with_len}
+use Rattle.std.specs.Option.{option_map}
 use Rattle.ranking.specs.declared.candidate.Candidate.{Candidate}
 use Rattle.ranking.specs.Orders.{none_last, least_of}
 use Rattle.ranking.specs.Candidates.{candidate_before}
@@ -10,11 +12,26 @@ use Rattle.model.specs.Units.{free_of_class, source_page, target_page}
 use Rattle.model.specs.Making.{page_to_take}
 use Rattle.model.specs.Calls.{if_some}
 use Rattle.pages.specs.declared.entry.Entry.{Entry}
-use Rattle.pages.specs.Entries.{pages_of, Full, Changed, Taken}
+use Rattle.pages.specs.Entries.{entry_view, WhateverWords, Changed, Taken}
 
--- a page that counts is a candidate by its figure
-abbrev pub candidate_of : Bool → ℕ → ℕ → Option Candidate
-candidate_of counts figure page = cond counts (Some (record { figure = figure; number = page })) None
+-- whether the page is open, of the class, and has a free block
+abbrev pub has_room_for : ℕ → Page → Bool
+has_room_for size p = in_class size p && nat_lt 0 (free p)
+
+-- the same of an entry, since it does not depend on the page's words
+abbrev pub entry_has_room : ℕ → Entry → Bool
+entry_has_room size e = has_room_for size (entry_view e [])
+
+-- the figure of a page that may be the source, and of one that may be the target
+abbrev pub source_figure : ℕ → ℕ → ℕ → Page → Option ℕ
+source_figure size targets g p = cond (in_class size p && not (has targets g)) (Some (occupied p.slots)) None
+
+abbrev pub target_figure : ℕ → Page → Option ℕ
+target_figure size p = cond (has_room_for size p) (Some (free p)) None
+
+-- the candidate of a page that has a figure
+abbrev pub candidate_at : Option ℕ → ℕ → Option Candidate
+candidate_at figure page = option_map (λ n. record { figure = n; number = page }) figure
 
 abbrev pub pair_of : Option Candidate → Option (ℕ × ℕ)
 pair_of None = None
@@ -23,6 +40,10 @@ pair_of (Some c) = Some (c.figure, c.number)
 -- the least candidate of a row, with its figure
 abbrev pub least_candidate : List (Option Candidate) → Option (ℕ × ℕ)
 least_candidate row = if_some (least_of (none_last candidate_before) row) (λ b. pair_of (slice_index_or row b None)) None
+
+-- the least of the pages by the figures that some have, with its figure
+abbrev pub least_figure : (ℕ → Option ℕ) → Option (ℕ × ℕ)
+least_figure h = least_candidate (map (λ k. candidate_at (h k) k) (range_with_len 0 64))
 
 -- the page for a record of so many words, of which some size is to hold them
 abbrev pub room_for : List Page → ℕ → Option ℕ
@@ -106,14 +127,14 @@ page_number None = None
 page_number (Some x) = Some x.0
 
 abbrev pub Allocated : List Entry → List Entry → ℕ → ℕ → Option (ℕ × ℕ) → Type 0
-Allocated es fs words from None = (fs ≡ es) × ((wss : List (List ℕ)) → Full es wss → room_for (pages_of es wss) words ≡ None)
+Allocated es fs words from None = (fs ≡ es) × WhateverWords es (λ ps. room_for ps words ≡ None)
 Allocated es fs words from (Some x) =
-    Taken es fs x.0 x.1 (fitting words) (nat_le from x.0) × ((wss : List (List ℕ)) → Full es wss → room_for (pages_of es wss) words ≡ Some x.0)
+    Taken es fs x.0 x.1 (fitting words) (nat_le from x.0) × WhateverWords es (λ ps. room_for ps words ≡ Some x.0)
 
 abbrev pub Retargeted : List Entry → List Entry → ℕ → Bool → Option (ℕ × ℕ) → Type 0
-Retargeted es fs size marked None = (fs ≡ es) × ((wss : List (List ℕ)) → Full es wss → target_page (pages_of es wss) size ≡ None)
+Retargeted es fs size marked None = (fs ≡ es) × WhateverWords es (λ ps. target_page ps size ≡ None)
 Retargeted es fs size marked (Some x) =
-    Taken es fs x.0 x.1 size marked × ((wss : List (List ℕ)) → Full es wss → (v : ℕ) × (target_page (pages_of es wss) size ≡ Some (v, x.0)))
+    Taken es fs x.0 x.1 size marked × WhateverWords es (λ ps. (v : ℕ) × (target_page ps size ≡ Some (v, x.0)))
 
 abbrev pub Targeted : List Page → ℕ → Option (ℕ × ℕ) → Type 0
 Targeted ps size None = (h : ℕ) → h < length ps → Takes size (page_at ps h) → ⊥

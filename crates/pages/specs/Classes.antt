@@ -1,10 +1,14 @@
 -- The table of the size classes.
-use Rattle.std.specs.Prelude.{◌≡◌, ℕ, ◌<◌, ◌≤◌, true, cond, length, Some, None, Option, nat_lt, slice_index, slice_index_or}
-use Rattle.model.specs.Classes.{sizes, blocks, by_rule}
+use Rattle.std.specs.Prelude.{◌≡◌, ℕ, ◌<◌, ◌≤◌, true, cond, length, Some, None, Option, ◌==◌, nat_lt, slice_index, slice_index_or}
+use Rattle.model.specs.Classes.{sizes, blocks, by_rule, fitting}
 use Rattle.pages.specs.declared.class.Class.{Class}
 
 abbrev pub class_numbered : ℕ → Option Class
 class_numbered k = cond (nat_lt k 20) (Some (record { size = slice_index sizes k; blocks = blocks (slice_index sizes k) })) None
+
+-- the smallest size that holds the words, if there is one
+abbrev pub size_for : ℕ → Option ℕ
+size_for words = cond (fitting words == 0) None (Some (fitting words))
 
 -- the first size is 4, each next one follows by the rule, the last is 32, and there are twenty
 pub record Ruled : Type 0 where

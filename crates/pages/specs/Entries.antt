@@ -33,9 +33,9 @@ no_entry = record {
 abbrev pub entry_at : List Entry → ℕ → Entry
 entry_at es g = slice_index_or es g no_entry
 
--- 64 pages, and the words of each
-abbrev pub Full : List Entry → List (List ℕ) → Type 0
-Full es wss = (length es ≡ 64) × (length wss ≡ 64)
+-- what holds of the pages, whatever words each of the 64 has
+abbrev pub WhateverWords : List Entry → (List Page → Type 0) → Type 0
+WhateverWords es P = (wss : List (List ℕ)) → length wss ≡ 64 → P (pages_of es wss)
 
 -- every block that is occupied after was so before, in a page of the same size
 abbrev pub NoneNew : List Entry → List Entry → Type 0
@@ -45,7 +45,7 @@ NoneNew es fs =
 -- only page `g` changes, and it has no new block
 pub record Changed (es fs : List Entry) (g : ℕ) (change : Page → Page) : Type 0 where
   pub count : length fs ≡ length es
-  pub view : (wss : List (List ℕ)) → Full es wss → pages_of fs wss ≡ slice_set (pages_of es wss) g (change (page_at (pages_of es wss) g))
+  pub view : (wss : List (List ℕ)) → length wss ≡ 64 → pages_of fs wss ≡ slice_set (pages_of es wss) g (change (page_at (pages_of es wss) g))
   pub none_new : NoneNew es fs
 
 abbrev pub mark_slot_in : Page → ℕ → Option Block → Page
@@ -67,6 +67,6 @@ pub record Taken (es fs : List Entry) (g s size : ℕ) (marked : Bool) : Type 0 
   pub same_size : (k : ℕ) → has (entry_at es g).occupied k ≡ true → (entry_at es g).size ≡ size
   pub new : (h k : ℕ) → has (entry_at fs h).occupied k ≡ true
       → ((h ≡ g) × (k ≡ s)) ⊎ ((has (entry_at es h).occupied k ≡ true) × ((entry_at fs h).size ≡ (entry_at es h).size))
-  pub lowest : (wss : List (List ℕ)) → Full es wss → s ≡ lowest_free (ready (page_at (pages_of es wss) g) size).slots
-  pub view : (wss : List (List ℕ)) → Full es wss
+  pub lowest : (wss : List (List ℕ)) → length wss ≡ 64 → s ≡ lowest_free (ready (page_at (pages_of es wss) g) size).slots
+  pub view : (wss : List (List ℕ)) → length wss ≡ 64
       → pages_of fs wss ≡ slice_set (pages_of es wss) g (filled (ready (page_at (pages_of es wss) g) size) s (block_of marked (region size (slice_index_or wss g []) s)))

@@ -1,7 +1,6 @@
 // The size classes: the words of a block, and the blocks of a page that is cut into such.
-ghost use Rattle.std.specs.Prelude.{◌≡◌, ℕ, ◌<◌};
-ghost use Rattle.model.specs.Classes.{fitting};
-ghost use Rattle.pages.specs.Classes.{class_numbered, Ruled, Smallest};
+ghost use Rattle.std.specs.Prelude.{◌≡◌, unwrap_or};
+ghost use Rattle.pages.specs.Classes.{class_numbered, size_for, Ruled, Smallest};
 
 use crate::class::Class;
 
@@ -94,22 +93,16 @@ pub fn class_at(place: usize) -> Option<Class>
     ensures class { result ≡ class_numbered place }
     ensures ruled { Ruled }
 {
-    if place < 20 {
-        Some(CLASSES[place])
-    } else {
-        None
-    }
+    CLASSES.get(place).copied()
 }
 
-// The smallest size of a block that holds so many words, or 0.
-pub fn fitting(words: usize) -> usize
-    ensures size { result ≡ fitting words }
-    ensures smallest { Smallest words result }
+// The smallest size of a block that holds so many words, if there is one.
+pub fn fitting(words: usize) -> Option<usize>
+    ensures size { result ≡ size_for words }
+    ensures smallest { Smallest words (unwrap_or result 0) }
 {
-    for class in CLASSES {
-        if words <= class.size {
-            return class.size;
-        }
-    }
-    0
+    CLASSES
+        .iter()
+        .find(|class| words <= class.size)
+        .map(|class| class.size)
 }

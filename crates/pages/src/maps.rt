@@ -1,13 +1,12 @@
 // Maps of 64 flags.
-ghost use Rattle.std.specs.Prelude.{◌≡◌, ℕ, ◌<◌, ◌≤◌};
+ghost use Rattle.std.specs.Prelude.{◌≡◌, ◌<◌, ◌≤◌};
 ghost use Rattle.model.specs.Maps.{has, with_flag_set};
 
-// Whether flag `s` of the map is set.
+// Whether flag `s` of the map is set; there is no flag past 63.
 pub(crate) fn flag(map: u64, s: usize) -> bool
-    requires { s < 64 }
     ensures { result ≡ has map s }
 {
-    (map >> s) & 1 == 1
+    s < 64 && (map >> s) & 1 == 1
 }
 
 // The map with flag `s` set; there is no flag past 63.

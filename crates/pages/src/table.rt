@@ -1,9 +1,9 @@
 // The entries of all pages.
-ghost use Rattle.std.specs.Prelude.{◌≡◌, ℕ, ◌<◌, false, List, length, replicate};
+ghost use Rattle.std.specs.Prelude.{◌≡◌, ℕ, false, length, replicate};
 ghost use Rattle.model.specs.Maps.{has};
 ghost use Rattle.model.specs.Pages.{uncut, with_closed};
 ghost use Rattle.model.specs.Units.{swept};
-ghost use Rattle.pages.specs.Entries.{pages_of, entry_at, Changed, mark_slot};
+ghost use Rattle.pages.specs.Entries.{WhateverWords, entry_at, Changed, mark_slot};
 
 mod choices;
 mod counts;
@@ -22,7 +22,7 @@ impl Table {
     // Every page is uncut.
     pub fn new() -> Table
         ensures count { length result.entries ≡ 64 }
-        ensures view { (wss : List (List ℕ)) → length wss ≡ 64 → pages_of result.entries wss ≡ replicate 64 uncut }
+        ensures view { WhateverWords result.entries (λ ps. ps ≡ replicate 64 uncut) }
         ensures empty { (g s : ℕ) → has (entry_at result.entries g).occupied s ≡ false }
     {
         Table {
@@ -30,68 +30,42 @@ impl Table {
         }
     }
 
-    // The size of the page's blocks, 0 where it is uncut.
+    // The size of the page's blocks, 0 where it is uncut, as the definition of a page has it.
     pub fn size(&self, page: usize) -> usize
-        ensures { length self.now.entries ≡ 64 → result ≡ (entry_at self.now.entries page).size }
+        ensures { result ≡ (entry_at self.now.entries page).size }
     {
-        if page < 64 {
-            self.entries[page].size
-        } else {
-            0
-        }
+        self.entries.get(page).map_or(0, |entry| entry.size)
     }
 
     pub fn is_closed(&self, page: usize) -> bool
-        ensures { length self.now.entries ≡ 64 → result ≡ (entry_at self.now.entries page).closed }
+        ensures { result ≡ (entry_at self.now.entries page).closed }
     {
-        if page < 64 {
-            self.entries[page].closed
-        } else {
-            false
-        }
+        self.entries.get(page).is_some_and(|entry| entry.closed)
     }
 
     // Whether the block is occupied.
     pub fn holds(&self, page: usize, slot: usize) -> bool
-        ensures { length self.now.entries ≡ 64 → result ≡ has (entry_at self.now.entries page).occupied slot }
+        ensures { result ≡ has (entry_at self.now.entries page).occupied slot }
     {
-        if page >= 64 {
-            return false;
-        }
-        if slot >= 64 {
-            return false;
-        }
-        flag(self.entries[page].occupied, slot)
+        self.entries
+            .get(page)
+            .is_some_and(|entry| flag(entry.occupied, slot))
     }
 
+    // Whether the block is marked. Two functions for the two maps: one of both would name the map by a closure in its clause.
     pub fn is_marked(&self, page: usize, slot: usize) -> bool
-        ensures { length self.now.entries ≡ 64 → result ≡ has (entry_at self.now.entries page).marked slot }
+        ensures { result ≡ has (entry_at self.now.entries page).marked slot }
     {
-        if page >= 64 {
-            return false;
-        }
-        if slot >= 64 {
-            return false;
-        }
-        flag(self.entries[page].marked, slot)
+        self.entries
+            .get(page)
+            .is_some_and(|entry| flag(entry.marked, slot))
     }
 
     // The block is marked, if it is occupied.
     pub fn mark(&mut self, page: usize, slot: usize)
         ensures { Changed self.old.entries self.new.entries page (λ p. mark_slot p slot) }
     {
-        if page < 64 {
-            if slot < 64 {
-                self.mark_block(page, slot);
-            }
-        }
-    }
-
-    fn mark_block(&mut self, page: usize, slot: usize)
-        requires { (page < 64) × (slot < 64) }
-        ensures { Changed self.old.entries self.new.entries page (λ p. mark_slot p slot) }
-    {
-        if flag(self.entries[page].occupied, slot) {
+        if self.holds(page, slot) {
             self.entries[page].mark(slot);
         }
     }
@@ -100,6 +74,7 @@ impl Table {
     pub fn sweep(&mut self, page: usize)
         ensures { Changed self.old.entries self.new.entries page swept }
     {
+        // an index: no clause of get_mut says what becomes of a table by a write into what it lends; so in reopen
         if page < 64 {
             self.entries[page].sweep();
         }

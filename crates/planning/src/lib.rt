@@ -1,59 +1,56 @@
 // Any call on the graph, and the order in which its events come.
 #![tactic(auto)]
 
-ghost use Rattle.std.specs.Prelude.{MatchResult, OnOk};
+ghost use Rattle.std.specs.Prelude.{OnOk};
 ghost use Rattle.histories.specs.Order.{Continues};
 ghost use Rattle.graph.specs.View.{graph_of, agenda_of};
-ghost use Rattle.graph.specs.Performs.{Performs, Unperformed};
+ghost use Rattle.graph.specs.Performs.{PerformsIfMemory};
 
-use calls::results::{done, same, shape, time, word};
 use calls::{Answer, Call, Refusal};
 use graph::Graph;
 use std::alloc::AllocError;
 
 // Performs a call, or says that no memory is left for it. The calls of a collection change nothing.
 // Whatever calls came before this one, events are taken in order and the clock does not fall.
+#[tactic(auto, using(crate::proofs::Orderly::performed))]
 pub fn perform(graph: &mut Graph, call: Call) -> Result<Result<Answer, Refusal>, AllocError>
-    ensures does { MatchResult result (Performs call graph.old graph.new) (λ _. Unperformed call graph.old graph.new) }
+    ensures does { PerformsIfMemory (λ a. a) call graph.old graph.new result }
     ensures orderly { OnOk result (Continues (agenda_of graph.old) call (graph_of graph.old) (graph_of graph.new)) }
 {
     dispatch(graph, call)
 }
 
-// Hands a call on to the method of its kind.
+// Hands a call on to the method of its kind, as a store does: here two calls may want memory, and those of a collection do nothing.
 fn dispatch(graph: &mut Graph, call: Call) -> Result<Result<Answer, Refusal>, AllocError>
-    ensures { MatchResult result (Performs call graph.old graph.new) (λ _. Unperformed call graph.old graph.new) }
+    ensures { PerformsIfMemory (λ a. a) call graph.old graph.new result }
 {
-    match call {
+    let answer = match call {
         Call::Make {
             place,
             references,
             words,
-        } => Ok(done(graph.make(place, references, words)?)),
+        } => graph.make(place, references, words)?.map(|()| Answer::Done),
         Call::Load {
             into,
             from,
             reference,
-        } => Ok(done(graph.load(into, from, reference))),
+        } => graph.load(into, from, reference).map(|()| Answer::Done),
         Call::Store {
             into,
             reference,
             from,
-        } => Ok(done(graph.store(into, reference, from))),
-        Call::Read { from, word: at } => Ok(word(graph.read(from, at))),
-        Call::Write {
-            into,
-            word: at,
-            value,
-        } => Ok(done(graph.write(into, at, value))),
-        Call::Copy { into, from } => Ok(done(graph.copy(into, from))),
-        Call::Clear { place } => Ok(done(graph.clear(place))),
-        Call::Same { left, right } => Ok(same(graph.same(left, right))),
-        Call::Shape { place } => Ok(shape(graph.shape(place))),
-        Call::Schedule { time: at, place } => Ok(done(graph.schedule(at, place)?)),
-        Call::Next { into } => Ok(time(graph.next(into))),
-        Call::Begin => Ok(Ok(Answer::Done)),
-        Call::Step { .. } => Ok(Ok(Answer::Done)),
-        Call::Count => Ok(Ok(Answer::Done)),
-    }
+        } => graph.store(into, reference, from).map(|()| Answer::Done),
+        Call::Read { from, word } => graph.read(from, word).map(Answer::Word),
+        Call::Write { into, word, value } => graph.write(into, word, value).map(|()| Answer::Done),
+        Call::Copy { into, from } => graph.copy(into, from).map(|()| Answer::Done),
+        Call::Clear { place } => graph.clear(place).map(|()| Answer::Done),
+        Call::Same { left, right } => graph.same(left, right).map(Answer::Same),
+        Call::Shape { place } => graph
+            .shape(place)
+            .map(|(references, words)| Answer::Shape { references, words }),
+        Call::Schedule { time, place } => graph.schedule(time, place)?.map(|()| Answer::Done),
+        Call::Next { into } => graph.next(into).map(Answer::Time),
+        Call::Begin | Call::Step { .. } | Call::Count => Ok(Answer::Done),
+    };
+    Ok(answer)
 }

@@ -1,5 +1,5 @@
 // Calls and replies as bytes.
 #![tactic(auto)]
 
-mod digits;
 pub mod lines;
+mod numbered;

@@ -5,7 +5,8 @@ ghost use Rattle.calls.specs.Spelling.{call_line, tabbed};
 ghost use Rattle.script.specs.Lines.{is_call, meaning};
 ghost use Rattle.printing.specs.Replies.{no_call_line, letter_of_refusal, reply_line};
 
-use crate::digits::{put, put_all, put_numbers};
+use crate::numbered::{LONGEST, numbered};
+use arrayvec::ArrayVec;
 use calls::{Answer, Call, Refusal};
 use std::alloc::{AllocError, Global};
 
@@ -13,33 +14,32 @@ use std::alloc::{AllocError, Global};
 fn letter_byte(call: &Call) -> u8
     ensures { result ≡ letter_of call.now }
 {
+    // a cast that is proved to keep it: `try_from` would answer an error that never comes
     call.letter() as u8
 }
 
-// The numbers of an answer, each behind a tab.
-fn put_answer(out: &mut Vec<u8>, answer: &Answer)
-    requires { vec_len out.old + 44 ≤ vec_capacity out.old }
-    ensures items { out.new.items ≡ out.old.items ++ tabbed (answered answer.now) }
-    ensures bound { vec_len out.new ≤ vec_len out.old + 44 }
-    ensures capacity { vec_capacity out.old ≤ vec_capacity out.new }
+// The reply to a call that is granted: ok, and the numbers of the answer.
+fn granted(letter: u8, answer: &Answer) -> ArrayVec<u8, LONGEST>
+    ensures { result.items ≡ reply_line letter (Ok answer.now) }
 {
+    let first = [letter, b'\t', b'o', b'k'];
     match answer {
-        Answer::Done => put_numbers(out, &[]),
-        Answer::Word(word) => put_numbers(out, &[*word]),
-        Answer::Same(same) => put_numbers(out, &[u32::from(*same)]),
-        Answer::Shape { references, words } => put_numbers(out, &[*references, *words]),
-        Answer::Time(time) => put_numbers(out, &[*time]),
+        Answer::Done => numbered(&first, &[]),
+        Answer::Word(word) => numbered(&first, &[*word]),
+        Answer::Same(same) => numbered(&first, &[u32::from(*same)]),
+        Answer::Shape { references, words } => numbered(&first, &[*references, *words]),
+        Answer::Time(time) => numbered(&first, &[*time]),
         Answer::Progress {
             done,
             total,
             unfinished,
-        } => put_numbers(out, &[*done, *total, u32::from(*unfinished)]),
+        } => numbered(&first, &[*done, *total, u32::from(*unfinished)]),
         Answer::Counts {
             current,
             husks,
             uncut,
             closed,
-        } => put_numbers(out, &[*current, *husks, *uncut, *closed]),
+        } => numbered(&first, &[*current, *husks, *uncut, *closed]),
     }
 }
 
@@ -47,64 +47,53 @@ fn put_answer(out: &mut Vec<u8>, answer: &Answer)
 fn refused_letter(letter: u8, refusal: &Refusal) -> u8
     ensures { result ≡ letter_of_refusal letter refusal.now }
 {
-    if refusal.number() == Refusal::NoCall.number() {
-        b'-'
-    } else {
-        letter
+    match refusal {
+        Refusal::NoCall => b'-',
+        _ => letter,
     }
 }
 
-fn put_reply(out: &mut Vec<u8>, letter: u8, answer: &Result<Answer, Refusal>)
-    requires { vec_len out.old + 48 ≤ vec_capacity out.old }
-    ensures items { out.new.items ≡ out.old.items ++ reply_line letter answer.now }
-    ensures bound { vec_len out.new ≤ vec_len out.old + 48 }
-    ensures capacity { vec_capacity out.old ≤ vec_capacity out.new }
+// The reply to a call that is refused: no, and the number of the refusal.
+fn refused(letter: u8, refusal: &Refusal) -> ArrayVec<u8, LONGEST>
+    ensures { result.items ≡ reply_line letter (Err refusal.now) }
 {
-    match answer {
-        Ok(answer) => {
-            put_all(out, &[letter, b'\t', b'o', b'k']);
-            put_answer(out, answer);
-        }
-        Err(refusal) => {
-            put_all(out, &[refused_letter(letter, refusal), b'\t', b'n', b'o']);
-            put_numbers(out, &[refusal.number()]);
-        }
-    }
+    let first = [refused_letter(letter, refusal), b'\t', b'n', b'o'];
+    numbered(&first, &[refusal.number()])
 }
 
-// The numbers of a call, each behind a tab; each has 32 bits.
-fn put_call_numbers(out: &mut Vec<u8>, call: &Call)
-    requires { vec_len out.old + 33 ≤ vec_capacity out.old }
-    ensures items { out.new.items ≡ out.old.items ++ tabbed (numbers_of call.now) }
+// The line of a call: its letter, and its numbers, each of 32 bits.
+fn asked(call: &Call) -> ArrayVec<u8, LONGEST>
+    ensures line { result.items ≡ call_line call.now }
     ensures words { Words (numbers_of call.now) }
 {
+    let first = [letter_byte(call)];
     match call {
         Call::Make {
             place,
             references,
             words,
-        } => put_numbers(out, &[*place, *references, *words]),
+        } => numbered(&first, &[*place, *references, *words]),
         Call::Load {
             into,
             from,
             reference,
-        } => put_numbers(out, &[*into, *from, *reference]),
+        } => numbered(&first, &[*into, *from, *reference]),
         Call::Store {
             into,
             reference,
             from,
-        } => put_numbers(out, &[*into, *reference, *from]),
-        Call::Read { from, word } => put_numbers(out, &[*from, *word]),
-        Call::Write { into, word, value } => put_numbers(out, &[*into, *word, *value]),
-        Call::Copy { into, from } => put_numbers(out, &[*into, *from]),
-        Call::Clear { place } => put_numbers(out, &[*place]),
-        Call::Same { left, right } => put_numbers(out, &[*left, *right]),
-        Call::Shape { place } => put_numbers(out, &[*place]),
-        Call::Schedule { time, place } => put_numbers(out, &[*time, *place]),
-        Call::Next { into } => put_numbers(out, &[*into]),
-        Call::Begin => put_numbers(out, &[]),
-        Call::Step { units } => put_numbers(out, &[*units]),
-        Call::Count => put_numbers(out, &[]),
+        } => numbered(&first, &[*into, *reference, *from]),
+        Call::Read { from, word } => numbered(&first, &[*from, *word]),
+        Call::Write { into, word, value } => numbered(&first, &[*into, *word, *value]),
+        Call::Copy { into, from } => numbered(&first, &[*into, *from]),
+        Call::Clear { place } => numbered(&first, &[*place]),
+        Call::Same { left, right } => numbered(&first, &[*left, *right]),
+        Call::Shape { place } => numbered(&first, &[*place]),
+        Call::Schedule { time, place } => numbered(&first, &[*time, *place]),
+        Call::Next { into } => numbered(&first, &[*into]),
+        Call::Begin => numbered(&first, &[]),
+        Call::Step { units } => numbered(&first, &[*units]),
+        Call::Count => numbered(&first, &[]),
     }
 }
 
@@ -113,10 +102,7 @@ pub fn call_line(heap: Global, call: &Call) -> Result<Vec<u8>, AllocError>
     ensures line { IfOk result (λ v. v.items ≡ call_line call.now) }
     ensures reads { IfOk result (λ v. meaning v.items ≡ is_call call.now) }
 {
-    let mut out = Vec::with_capacity(heap, 34)?;
-    put(&mut out, letter_byte(call));
-    put_call_numbers(&mut out, call);
-    Ok(out)
+    Vec::from_slice(heap, asked(call).as_slice())
 }
 
 // The reply to a call, behind what is in a buffer; where there is no memory for it the buffer stays.
@@ -128,10 +114,12 @@ pub fn add_reply(
     ensures items { out.new.items ≡ (if is_ok result then out.old.items ++ (reply_line (letter_of call.now) answer.now ++ 10 ∷ []) else out.old.items) }
     ensures succeeds { vec_len out.old + 49 ≤ vec_capacity out.old → is_ok result ≡ true }
 {
-    out.reserve(49)?;
-    put_reply(out, letter_byte(call), answer);
-    put(out, b'\n');
-    Ok(())
+    let letter = letter_byte(call);
+    let line = match answer {
+        Ok(answer) => granted(letter, answer),
+        Err(refusal) => refused(letter, refusal),
+    };
+    add_line(out, line.as_slice())
 }
 
 // A line of other bytes, likewise.
@@ -139,12 +127,10 @@ pub fn add_line(out: &mut Vec<u8>, bytes: &[u8]) -> Result<(), AllocError>
     ensures items { out.new.items ≡ (if is_ok result then out.old.items ++ (bytes.now ++ 10 ∷ []) else out.old.items) }
     ensures succeeds { vec_len out.old + length bytes.now + 1 ≤ vec_capacity out.old → is_ok result ≡ true }
 {
-    let Some(room) = bytes.len().checked_add(1) else {
-        return Err(AllocError);
-    };
-    out.reserve(room)?;
-    put_all(out, bytes);
-    put(out, b'\n');
+    out.reserve(bytes.len().checked_add(1).ok_or(AllocError)?)?;
+    // neither fails, since there is room
+    let _ = out.extend_from_slice(bytes);
+    let _ = out.push(b'\n');
     Ok(())
 }
 

@@ -15,12 +15,13 @@ fn run(rt: &HostRuntime) -> anyhow::Result<()> {
     let mut chunk = [0u8; 8192];
     let store = Store::new(Registers::new(), OrderedAgenda::new());
     let mut interpreter = Interpreter::new(rt.alloc(), Recording::new(store));
+    // to the end of the input; the range says that the loop ends
     for _ in 0..u64::MAX {
         let count = input.read(&mut chunk)?;
         if count == 0 {
             break;
         }
-        interpreter.feed(&chunk[0..count])?;
+        interpreter.feed(&chunk[..count])?;
         output.write_all(interpreter.output())?;
         output.flush()?;
         interpreter.clear_output();

@@ -1,3 +1,2 @@
 pub mod Orders
 pub mod Leasts
-pub mod Candidates

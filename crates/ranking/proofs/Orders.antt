@@ -1,38 +1,12 @@
 -- What an order gives, and how orders are made.
-use Rattle.std.proofs.Common.{◌≡◌, ℕ, Bool, true, false, Some, None, Option, sym, refl, ◌∙◌, ⊎_elim, arith}
+use Rattle.std.proofs.Common.{◌≡◌, Bool, true, false, Some, None, Option, sym, refl, ◌∙◌, ⊎_elim}
 use Rattle.std.specs.Cmp.{IsStrictWeakOrder}
-use Rattle.std.proofs.lemmas.Bool.{cases_Bool, both_ways, true≢false, cond-true, cond-false, ltb-false}
-use Rattle.ranking.specs.Orders.{by_number, then_by, none_last}
-
-module _ {X : Type 0} (before : X → X → Bool)
-    (one_way : (x y : X) → before x y ≡ true → before y x ≡ false)
-    (either_way : (x y : X) → before x y ≡ false → before y x ≡ false → x ≡ y)
-    (chain : (x y z : X) → before x y ≡ true → before y z ≡ true → before x z ≡ true) where
-  -- a total order ranks its items
-  pub ranks_from_laws : IsStrictWeakOrder before
-  ranks_from_laws = record {
-    one_way = one_way;
-    chain = λ x y z p q. ⊎_elim
-        (λ yx. ⊎_elim (λ zy. one_way z x (chain z y x zy yx))
-        (λ zy. rw (either_way y z q zy) at (one_way y x yx))
-        (cases_Bool (before z y)))
-        (λ yx. rw (sym (either_way x y p yx)) at q)
-        (cases_Bool (before y x));
-  }
-
-  -- what does not come before another, and differs from it, comes after it
-  pub after : (x y : X) → before y x ≡ false → (y ≡ x → ⊥) → before x y ≡ true
-  after x y p ne = ⊎_elim (λ t. t) (λ f. absurd (ne (either_way y x p f))) (cases_Bool (before x y))
+use Rattle.std.proofs.lemmas.Bool.{cases_Bool, both_ways, true≢false, cond-true, cond-false}
+use Rattle.ranking.specs.Orders.{then_by, none_last}
 
 module _ {X : Type 0} (before : X → X → Bool) (o : IsStrictWeakOrder before) where
   pub itself : (x : X) → before x x ≡ false
   itself x = ⊎_elim (λ (t : before x x ≡ true). o.one_way x x t) (λ f. f) (cases_Bool (before x x))
-
-  pub chain_before : (x y z : X) → before x y ≡ true → before y z ≡ true → before x z ≡ true
-  chain_before x y z xy yz =
-      ⊎_elim (λ (t : before x z ≡ true). t)
-      (λ f. absurd (both_ways _ (o.chain x z y f (o.one_way y z yz)) xy))
-      (cases_Bool (before x z))
 
 module _ {X : Type 0} (first second : X → X → Bool) where
   -- what the later of two says of each order
@@ -75,10 +49,6 @@ pub then_by_level : {X : Type 0} (first second : X → X → Bool) (x y : X) →
 then_by_level first second x y h k =
     let a = then_by_parts first second x y h in
     let b = then_by_parts first second y x k in (a.0, b.0, a.1 b.0, b.1 a.0)
-
--- equal numbers
-pub by_number_level : {X : Type 0} (number : X → ℕ) (x y : X) → by_number number x y ≡ false → by_number number y x ≡ false → number x ≡ number y
-by_number_level number x y h k = omega (arith, ltb-false (number x) (number y) h, ltb-false (number y) (number x) k)
 
 module _ {X : Type 0} (before : X → X → Bool) (o : IsStrictWeakOrder before) where
   none_one_way : (x y : Option X) → none_last before x y ≡ true → none_last before y x ≡ false

@@ -5,6 +5,7 @@ ghost use Rattle.std.proofs.Common.{rules};
 use crate::candidate::Candidate;
 use crate::ranked::Ranked;
 
+// Each kind of item shows the laws of its own order, as keys do; `precedes` is the derived `<`.
 impl Ranked for Candidate {
     ghost before = { candidate_before };
 
@@ -17,10 +18,6 @@ impl Ranked for Candidate {
     ghost chain = { Prim.search rules };
 
     fn precedes(self, other: Candidate) -> bool {
-        if self.figure == other.figure {
-            self.number < other.number
-        } else {
-            self.figure < other.figure
-        }
+        self < other
     }
 }

@@ -3,6 +3,7 @@ ghost use Rattle.std.specs.Prelude.{◌≡◌, Bool, true, false, length, MatchO
 ghost use Rattle.ranking.specs.Orders.{none_last, least_of, Least};
 ghost use Rattle.std.proofs.Common.{rules};
 
+// A trait beside std's Ord, since Ord lets two items that differ compare as equal, and its options put none first.
 pub trait Ranked {
     // whether the first item comes before the second
     ghost before: { Self → Self → Bool };
@@ -20,21 +21,20 @@ pub trait Ranked {
 }
 
 // The place of the least item, the lowest of equals, or none of an empty row.
-// A row in which some items do not count is a row of options: none comes after every item.
+// A row in which some items do not count is a row of options: none comes after every item. A `for` and no `min`, which asks for an Ord.
 pub fn least<T: Ranked + Copy>(row: &[T]) -> Option<usize>
     ensures value { result ≡ least_of T.before row.now }
     ensures least { MatchOption result (length row.now ≡ 0) (λ b. Least T.before row.now b) }
 {
-    if row.len() == 0 {
-        return None;
-    }
-    let mut best = 0;
-    for i in 1..row.len() {
-        if row[i].precedes(row[best]) {
-            best = i;
+    let mut best = *row.first()?;
+    let mut place = 0;
+    for (i, item) in row.iter().enumerate() {
+        if item.precedes(best) {
+            best = *item;
+            place = i;
         }
     }
-    Some(best)
+    Some(place)
 }
 
 // None comes after every item.
@@ -50,12 +50,10 @@ impl<T: Ranked + Copy> Ranked for Option<T> {
     ghost chain = { Prim.search rules };
 
     fn precedes(self, other: Option<T>) -> bool {
-        match self {
-            None => false,
-            Some(a) => match other {
-                None => true,
-                Some(b) => a.precedes(b),
-            },
+        match (self, other) {
+            (None, _) => false,
+            (Some(_), None) => true,
+            (Some(one), Some(another)) => one.precedes(another),
         }
     }
 }

@@ -2,7 +2,7 @@
 #![tactic(auto)]
 
 ghost use Rattle.std.specs.Prelude.{◌≡◌};
-ghost use Rattle.recording.specs.Performed.{Performed};
+ghost use Rattle.store.specs.Performed.{Performed};
 
 use calls::{Answer, Call, Refusal};
 use interpreter::recorder::Recorder;

@@ -5,9 +5,10 @@ use Rattle.std.proofs.lemmas.Str.Parse.{IsNumeralModel, numerals_by_fold}
 use Rattle.std.proofs.lemmas.Fmt.{digits_decimal, digits_value-decimal, decimal-digits_value, first_decimal, decimal_digit, decimal_nonempty}
 use Rattle.calls.specs.Numbers.{Words}
 use Rattle.calls.specs.Spelling.{tabbed}
-use Rattle.script.specs.Fields.{onto, fields}
+use Rattle.std.specs.List.{onto_first}
+use Rattle.script.specs.Fields.{fields}
 use Rattle.script.specs.Numerals.{digit, all_digits, unpadded, value_after, numeral, with_number, numbers}
-use Rattle.script.specs.Scanning.{after}
+use Rattle.script.proofs.Splitting.{after, some_number}
 
 own : IsNumeralModel (λ ds. all_digits ds ≡ true) (value_after 0)
 own = numerals_by_fold _ (search rules) value_after (search rules)
@@ -44,7 +45,7 @@ numeral_decimal n h =
 
 some_cond : (b : Bool) (v n : ℕ) → cond b (Some v) None ≡ Some n → (b ≡ true) × (v ≡ n)
 some_cond true v n e = (refl, cc)
-some_cond false v n e = let z : ◌≡◌ {A = ℕ} 0 1 = cc in absurd (omega arith)
+some_cond false v n e = cc
 
 pub decimal_numeral : (ds : List ℕ) (n : ℕ) → numeral ds ≡ Some n → ds ≡ decimal n
 decimal_numeral ds n e =
@@ -59,11 +60,6 @@ numbers_decimal [] h = refl
 numbers_decimal (n ∷ ns) h =
     ap (λ (o : Option ℕ). with_number o (numbers (map decimal ns))) (numeral_decimal n h.0) ∙
     ap (λ (o : Option (List ℕ)). with_number (Some n) o) (numbers_decimal ns h.1)
-
-some_number : (x : Option ℕ) (o : Option (List ℕ)) (ns : List ℕ) → with_number x o ≡ Some ns → (m : ℕ) × (ms : List ℕ) × (x ≡ Some m) × (o ≡ Some ms) × (ns ≡ m ∷ ms)
-some_number None o ns e = let z : ◌≡◌ {A = ℕ} 0 1 = cc in absurd (omega arith)
-some_number (Some m) None ns e = let z : ◌≡◌ {A = ℕ} 0 1 = cc in absurd (omega arith)
-some_number (Some m) (Some ms) ns e = (m, ms, refl, refl, cc)
 
 pub decimal_numbers : (fs : List (List ℕ)) (ns : List ℕ) → numbers fs ≡ Some ns → fs ≡ map decimal ns
 decimal_numbers [] ns e = let h : ns ≡ [] = cc in ap (map decimal) (sym h)
@@ -80,7 +76,7 @@ cut [] (n ∷ ns) h = refl
 cut (d ∷ ds) ns h =
     let p = and_parts (digit d) (all_digits ds) h in
     let q = and_parts (leb 48 d) (leb d 57) p.0 in
-    cond-false (eqb d 9) _ _ (ne_eqb d 9 (λ e. omega (arith, leb-true 48 d q.0))) ∙ ap (onto d) (cut ds ns p.1)
+    cond-false (eqb d 9) _ _ (ne_eqb d 9 (λ e. omega (arith, leb-true 48 d q.0))) ∙ ap (onto_first d) (cut ds ns p.1)
 
 pub after_tabbed : (ns : List ℕ) → Words ns → after (tabbed ns) ≡ map decimal ns
 after_tabbed [] h = refl

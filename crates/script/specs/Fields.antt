@@ -1,15 +1,10 @@
 -- Bytes parted at each byte of one kind, and the fields of a line.
-use Rattle.std.specs.Prelude.{ℕ, cond, List, [], ◌∷◌, ◌==◌}
-
--- c before the first of the parts
-abbrev pub onto : ℕ → List (List ℕ) → List (List ℕ)
-onto c [] = (c ∷ []) ∷ []
-onto c (f ∷ fs) = (c ∷ f) ∷ fs
+use Rattle.std.specs.Prelude.{ℕ, List, ◌==◌}
+use Rattle.std.specs.List.{slice_split}
 
 -- the parts between the bytes t, of which there is one more than there are bytes t
 abbrev pub parted : ℕ → List ℕ → List (List ℕ)
-parted t [] = [] ∷ []
-parted t (c ∷ cs) = cond (c == t) ([] ∷ parted t cs) (onto c (parted t cs))
+parted t bs = slice_split (λ b. b == t) bs
 
 -- the fields of a line: its parts between tabs
 abbrev pub fields : List ℕ → List (List ℕ)

@@ -1,6 +1,5 @@
 -- What the steps of reading a line answer.
-use Rattle.std.specs.Prelude.{ℕ, ◌+◌, ◌-◌, ◌*◌, Bool, true, false, cond, ◌&&◌, List, [], ◌∷◌, Some, None, Option, ◌==◌, nat_le}
-use Rattle.script.specs.Fields.{fields}
+use Rattle.std.specs.Prelude.{ℕ, ◌+◌, ◌-◌, ◌*◌, cond, ◌&&◌, List, [], ◌∷◌, Some, None, Option, nat_le}
 use Rattle.script.specs.Numerals.{digit}
 
 -- the number after one more digit, if it fits
@@ -15,20 +14,3 @@ and_then (Some n) k = k n
 abbrev pub scanned : ℕ → List ℕ → Option ℕ
 scanned n [] = Some n
 scanned n (c ∷ cs) = and_then (digit_added n c) (λ m. scanned m cs)
-
--- the fields after one, of what follows it: nothing, or a tab and the rest of the line
-abbrev pub after : List ℕ → List (List ℕ)
-after [] = []
-after (c ∷ cs) = fields cs
-
--- whether the first field is one byte
-abbrev pub one_byte_first : List ℕ → Bool
-one_byte_first [] = false
-one_byte_first (c ∷ []) = true
-one_byte_first (c ∷ d ∷ ds) = d == 9
-
--- these are not numbers of which there is a first
-abbrev pub Lacks : Option (List ℕ) → Type 0
-Lacks None = Unit {0}
-Lacks (Some []) = Unit {0}
-Lacks (Some (n ∷ ns)) = ⊥

@@ -1,7 +1,6 @@
 // Lines of a script: a line in, a call out.
 #![tactic(auto)]
 
-mod field;
 pub mod line;
 mod naming;
 mod numeral;

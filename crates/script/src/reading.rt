@@ -1,49 +1,27 @@
 // Reading a line.
-ghost use Rattle.std.specs.Prelude.{◌≡◌, ◌<◌, true, length, nat_le};
+ghost use Rattle.std.specs.Prelude.{◌≡◌};
 ghost use Rattle.script.specs.Fields.{fields};
-ghost use Rattle.script.specs.Lines.{Exact, opens_remark, call_of_fields, meaning, sense};
-ghost use Rattle.script.specs.Scanning.{one_byte_first};
+ghost use Rattle.script.specs.Lines.{Exact, call_of_fields, meaning, sense};
 
 use crate::line::Line;
 use crate::naming::call_named;
+use crate::numeral::numeral_of;
+use arrayvec::ArrayVec;
 use calls::Call;
 
-// Whether the first field is one byte.
-fn is_one_byte_first(line: &[u8]) -> bool
-    ensures value { result ≡ one_byte_first line.now }
-    ensures some { result ≡ true → 0 < length line.now }
-{
-    match line {
-        [] => false,
-        [_] => true,
-        [_, second, ..] => *second == b'\t',
-    }
-}
-
-// The call of a line, if it is one.
+// The call of a line, if it is one: the first field is a letter, and each other field a number.
 fn call_in(line: &[u8]) -> Option<Call>
     ensures { result ≡ call_of_fields (fields line.now) }
 {
-    if !is_one_byte_first(line) {
+    let mut fields = line.split(|b| *b == b'\t');
+    let [letter] = fields.next()? else {
         return None;
+    };
+    let mut numbers = ArrayVec::<u32, 3>::new();
+    for field in fields {
+        numbers.try_push(numeral_of(field)?).ok()?;
     }
-    call_named(char::from(line[0]), &line[1..])
-}
-
-// Whether a line has at most 80 bytes.
-fn fits(line: &[u8]) -> bool
-    ensures { result ≡ nat_le (length line.now) 80 }
-{
-    line.len() <= 80
-}
-
-fn begins_remark(line: &[u8]) -> bool
-    ensures { result ≡ opens_remark line.now }
-{
-    match line {
-        [] => false,
-        [first, ..] => *first == b'#',
-    }
+    call_named(char::from(*letter), numbers.as_slice())
 }
 
 // What a line, without its line feed, says. It says a call exactly if it is the line of that call, and it is a remark
@@ -52,14 +30,15 @@ pub fn read_line(line: &[u8]) -> Line<'_>
     ensures value { sense result ≡ meaning line.now }
     ensures exact { Exact line.now (sense result) }
 {
-    if !fits(line) {
+    if line.len() > 80 {
         return Line::NoCall;
     }
-    if begins_remark(line) {
+    if line.starts_with(b"#") {
         return Line::Remark(line);
     }
-    match call_in(line) {
-        Some(call) => Line::Call(call),
-        None => Line::NoCall,
-    }
+    // not `map_or`: the proof would not see which line the closure makes
+    let Some(call) = call_in(line) else {
+        return Line::NoCall;
+    };
+    Line::Call(call)
 }

@@ -1,8 +1,7 @@
 // A store over any holder and any agenda.
 ghost use Rattle.std.specs.Prelude.{◌≡◌};
 ghost use Rattle.model.specs.State.{fresh};
-ghost use Rattle.collector.specs.View.{heap_of};
-ghost use Rattle.operations.specs.Parts.{together};
+ghost use Rattle.operations.specs.Parts.{state_of};
 
 use crate::records::Records;
 use calls::Refusal;
@@ -19,8 +18,8 @@ pub struct Store<H: Holder + Drop, A: Agenda + Drop> {
 impl<H: Holder + Drop, A: Agenda + Drop> Store<H, A> {
     // A fresh store: every place gets 0, every key goes. All memory is got here.
     pub fn new(holder: H, agenda: A) -> Store<H, A>
-        ensures { together (heap_of result.engine.collector) (H.Holder.row result.engine.holder) (A.Holder.row result.engine.agenda) (A.Agenda.keys result.engine.agenda) result.engine.clock result.engine.serial
-            ≡ fresh H.Holder.places A.Holder.places }
+        ensures { state_of H.Holder.row A.Holder.row A.Agenda.keys result.engine.parts result.engine.clock result.engine.serial
+            ≡ fresh H.Holder.PLACES A.Holder.PLACES }
     {
         Store {
             engine: Engine::new(holder, agenda),
@@ -29,11 +28,11 @@ impl<H: Holder + Drop, A: Agenda + Drop> Store<H, A> {
 }
 
 impl<H: Holder + Drop, A: Agenda + Drop> Records for Store<H, A> {
-    ghost state = { λ s. together (heap_of s.engine.collector) (H.Holder.row s.engine.holder) (A.Holder.row s.engine.agenda) (A.Agenda.keys s.engine.agenda) s.engine.clock s.engine.serial };
+    ghost state = { λ s. state_of H.Holder.row A.Holder.row A.Agenda.keys s.engine.parts s.engine.clock s.engine.serial };
 
-    ghost held = { H.Holder.places };
+    ghost held = { H.Holder.PLACES };
 
-    ghost planned = { A.Holder.places };
+    ghost planned = { A.Holder.PLACES };
 
     fn make(&mut self, place: u32, references: u32, words: u32) -> Result<(), Refusal> {
         self.engine.make(place, references, words)

@@ -23,8 +23,8 @@ use Rattle.theory.proofs.Following.{First, Follows, Has, all_passed, due, first_
 
 test_same : (a b : Bool) (n : Refusal) (x y : Option Refusal) → a ≡ b → (a ≡ false → x ≡ y) → cond a (Some n) x ≡ cond b (Some n) y
 test_same true true n x y e f = refl
-test_same true false n x y e f = let z : ◌≡◌ {A = ℕ} 0 1 = cc in absurd (omega arith)
-test_same false true n x y e f = let z : ◌≡◌ {A = ℕ} 0 1 = cc in absurd (omega arith)
+test_same true false n x y e f = cc
+test_same false true n x y e f = cc
 test_same false false n x y e f = f refl
 
 -- one condition more than the graph has: its refusal, or one of the others

@@ -46,7 +46,7 @@ overwritten s p m d = charged_paid 0 s (overwrite s p m) (length-set s.holder p 
 
 -- the first condition fails
 none_first : (b : Bool) (x : Refusal) (cs : List (Bool × Refusal)) → first_refusal ((b, x) ∷ cs) ≡ None → (b ≡ false) × (first_refusal cs ≡ None)
-none_first true x cs e = let z : ◌≡◌ {A = ℕ} 0 1 = cc in absurd (omega arith)
+none_first true x cs e = cc
 none_first false x cs e = (refl, e)
 
 -- a record that is made is not too large

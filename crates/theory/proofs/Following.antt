@@ -50,7 +50,7 @@ all_passed (c ∷ cs) e = go c.0 e (all_passed cs)
     go false e f = (refl, f e)
 
 some_is : {A : Type 0} (x : Option A) → is_none x ≡ false → (a : A) × (x ≡ Some a)
-some_is None e = let z : ◌≡◌ {A = ℕ} 0 1 = cc in absurd (omega arith)
+some_is None e = cc
 some_is (Some a) e = (a, refl)
 
 pub place_in : (s : State) (p : ℕ) → no_place s p ≡ false → p < length s.holder
@@ -339,7 +339,7 @@ module _ {T : ℕ → Type 0} {s : State} {g : Graph} {own : ℕ → ℕ} (a : F
   call_follows (Shape q) b e = a
   call_follows (Schedule t p) b e = schedule_follows t p e
   call_follows (Next p) b e = next_follows p e
-  call_follows Begin b e = let z : ◌≡◌ {A = ℕ} 0 1 = cc in absurd (omega arith)
+  call_follows Begin b e = cc
   call_follows (Step u) b e =
       let q = steps_quiet u s in
       carried (steps u s) g (owner_steps u s own) (steps_stand u a.store) q.keys q.clock q.serial refl refl refl

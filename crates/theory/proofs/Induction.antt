@@ -28,10 +28,10 @@ pub record Invariant (r : Run) : Type 0 where
 
 pub not_running : (ph : Phase) → running ph ≡ false → ph ≡ idle
 not_running idle e = refl
-not_running (roots i) e = let z : ◌≡◌ {A = ℕ} 0 1 = cc in absurd (omega arith)
-not_running marking e = let z : ◌≡◌ {A = ℕ} 0 1 = cc in absurd (omega arith)
-not_running (sweeping g) e = let z : ◌≡◌ {A = ℕ} 0 1 = cc in absurd (omega arith)
-not_running (moving k s i) e = let z : ◌≡◌ {A = ℕ} 0 1 = cc in absurd (omega arith)
+not_running (roots i) e = cc
+not_running marking e = cc
+not_running (sweeping g) e = cc
+not_running (moving k s i) e = cc
 
 -- every reached record is one of the graph's
 pub reached_range : {T : ℕ → Type 0} {s : State} {g : Graph} {own : ℕ → ℕ} → Follows T s g own → (x : ℕ) → Reached g x

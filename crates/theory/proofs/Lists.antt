@@ -1,6 +1,6 @@
 -- Lists and options: what the shelf lacks.
 use Rattle.std.proofs.Common.{◌≡◌, ℕ, zero, suc, ◌-◌, ◌<◌, ◌≤◌, Bool, true, ◌&&◌, ◌⊎◌, List, [], ◌∷◌, map, length, get_or, drop, set, replicate, Some, None, Option, sym, refl, ap, ◌∙◌, subst, ap₂, inl, inr, ⊎_elim, arith, drop-cons}
-use Rattle.std.proofs.lemmas.List.{drop_all, get_or-map, get_or_past, get_or-set_other, get_or-set_same, length-map, length-set, map-set, set-get_or, set_past}
+use Rattle.std.proofs.lemmas.List.{drop_all, get_or-map, get_or_past, get_or-set_other, get_or-set_same, length-map, length-set}
 use Rattle.std.proofs.lemmas.Bool.{and_parts, cases_eq, cases_lt}
 use Rattle.holders.specs.declared.key.Key.{Key}
 use Rattle.model.specs.Pages.{lowest_free, occupied}
@@ -9,7 +9,7 @@ use Rattle.model.specs.Graph.{Member, here, there}
 -- Options, and places of a list that hold one.
 
 pub none_some : {A : Type 0} {P : Type 0} (a : A) → None ≡ Some a → P
-none_some a e = let z : ◌≡◌ {A = ℕ} 0 1 = cc in absurd (omega arith)
+none_some a e = cc
 
 pub some_same : {A : Type 0} {x : Option A} {a b : A} → x ≡ Some a → x ≡ Some b → a ≡ b
 some_same p q = cc
@@ -100,13 +100,6 @@ map_same {f} {g} (x ∷ xs) h =
     ap₂ (λ (y : ℕ) (ys : List ℕ). y ∷ ys) (h x (record { at = 0; inside = omega arith; is = refl }))
     (map_same xs (λ r i. h r (record { at = suc i.at; inside = omega arith; is = i.is })))
 
-pub map_set_same : (f : ℕ → ℕ) (xs : List ℕ) (i v : ℕ) → f v ≡ f (get_or xs i 0) → map f (set xs i v) ≡ map f xs
-map_set_same f xs i v e =
-    ⊎_elim
-    (λ (l : i < length xs). map-set f xs i v ∙ ap (set (map f xs) i) (e ∙ sym (get_or-map f xs i 0 0 l)) ∙ set-get_or (map f xs) i 0)
-    (λ (l : length xs ≤ i). ap (map f) (set_past xs i v l))
-    (cases_lt i (length xs))
-
 -- Lists of one value.
 
 pub replicate_at : {A : Type 0} (k i : ℕ) (x : A) → get_or (replicate k x) i x ≡ x
@@ -127,13 +120,13 @@ pub drop_front : (xs ys : List ℕ) (f r : ℕ) → r ∷ ys ≡ drop f xs → (
 drop_front xs ys f r e =
     ⊎_elim
     (λ (h : f < length xs). let d = drop-cons xs f 0 h in (h, cc, cc))
-    (λ (h : length xs ≤ f). let d = drop_all f xs h in let z : ◌≡◌ {A = ℕ} 0 1 = cc in absurd (omega arith))
+    (λ (h : length xs ≤ f). let d = drop_all f xs h in cc)
     (cases_lt f (length xs))
 
 pub drop_none : (xs : List ℕ) (f : ℕ) → [] ≡ drop f xs → length xs ≤ f
 drop_none xs f e =
     ⊎_elim
-    (λ (h : f < length xs). let d = drop-cons xs f 0 h in let z : ◌≡◌ {A = ℕ} 0 1 = cc in omega arith)
+    (λ (h : f < length xs). let d = drop-cons xs f 0 h in cc)
     (λ h. h)
     (cases_lt f (length xs))
 

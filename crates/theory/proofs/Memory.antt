@@ -1,5 +1,5 @@
 -- A memory is a function from numbers to blocks. Current forms, marks, and what one written block changes.
-use Rattle.std.proofs.Common.{◌≡◌, ℕ, ◌≤◌, true, false, ◌≢◌, ◌⊎◌, List, Some, None, Option, sym, refl, ap, ◌∙◌, inl, inr, ⊎_elim, arith}
+use Rattle.std.proofs.Common.{◌≡◌, ℕ, ◌≤◌, true, false, ◌≢◌, ◌⊎◌, List, Some, None, Option, sym, refl, ap, ◌∙◌, inl, inr, ⊎_elim}
 use Rattle.std.proofs.lemmas.Bool.{cases_Bool, cases_eq}
 use Rattle.model.specs.Pages.{Block, forward_of}
 use Rattle.theory.proofs.Lists.{In, none_some, some_same}
@@ -27,7 +27,7 @@ pub white_marked : {M : Mem} {n : ℕ} {P : Type 0} → White M n → Marked M n
 white_marked w k =
     let e : w.block ≡ k.block = cc in
     let f : true ≡ false = sym k.marked ∙ sym (ap (λ (b : Block). b.marked) e) ∙ w.unmarked in
-    let z : ◌≡◌ {A = ℕ} 0 1 = cc in absurd (omega arith)
+    cc
 
 -- blocks stay, with their forwards, and what is marked stays marked
 pub record BlockKept (b c : Block) : Type 0 where

@@ -168,7 +168,7 @@ target_room ps g o l low =
     record { room = room_number ps g s l low h; page = omega arith; free = block_number ps g s h ∙ lowest_none (page_at ps g).slots }
 
 is_current_some : (n : ℕ) (x : Option Block) → is_current_block n x ≡ true → (b : Block) × (x ≡ Some b) × (b.forward ≡ n)
-is_current_some n None e = let z : ◌≡◌ {A = ℕ} 0 1 = cc in absurd (omega arith)
+is_current_some n None e = cc
 is_current_some n (Some b) e = (b, refl, eqb-true _ _ e)
 
 lowest_found : (g s : ℕ) (xs : List (Option Block)) (k : ℕ) → lowest_current_block g s xs ≡ Some k

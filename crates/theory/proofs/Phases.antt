@@ -9,7 +9,8 @@ use Rattle.model.specs.Graph.{Record}
 use Rattle.model.specs.Runs.{owner_steps, owner_unit}
 use Rattle.theory.proofs.PageShapes.{PagesOk, set_pages_ok, swept_ok}
 use Rattle.theory.proofs.Numbers.{named_from, room_from}
-use Rattle.theory.proofs.Lists.{In, in_set_back, map_set_same, some_same}
+use Rattle.std.proofs.Math.Seq.{map-set_same}
+use Rattle.theory.proofs.Lists.{In, in_set_back, some_same}
 use Rattle.theory.proofs.Memory.{HasBlock, Marked, Mem, OneBlockEach, White, form, form_twice, one_each_back}
 use Rattle.theory.proofs.Pages.{sweep_other, sweep_same}
 use Rattle.theory.proofs.StandsFor.{NilOr, StandsFor, alike_stands, nil_or_form, owner_form, place_nil_or, stands_one_each}
@@ -92,7 +93,7 @@ module _ (T : ℕ → Type 0) (ns : List Record) (ys : List ℕ) (own : ℕ → 
           one = s.one;
           good = s.good;
           roots = λ r j. ⊎_elim (λ (e : form (memory h) (get_or xs i 0) ≡ r). subst (NilOr (HasBlock M)) e (over _ nm)) (λ k. s.roots r k) (in_set_back xs i (form (memory h) (get_or xs i 0)) j);
-          holds = map_set_same own xs i (form (memory h) (get_or xs i 0)) (owner_form a.marks.colours.ok.sound.zero_free a.marks.mirror (get_or xs i 0) root_names) ∙ s.holds;
+          holds = map-set_same own xs i (form (memory h) (get_or xs i 0)) 0 (owner_form a.marks.colours.ok.sound.zero_free a.marks.mirror (get_or xs i 0) root_names) ∙ s.holds;
         }
       where
         over : (r : ℕ) → NilOr (HasBlock (memory h)) r → NilOr (HasBlock (memory (grey h root_form))) r

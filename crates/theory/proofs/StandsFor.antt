@@ -6,7 +6,8 @@ use Rattle.model.specs.Pages.{Block, forward_of}
 use Rattle.model.specs.Units.{with_refs}
 use Rattle.model.specs.Graph.{Record}
 use Rattle.model.specs.Runs.{put}
-use Rattle.theory.proofs.Lists.{In, in_set_back, in_zeros, map_same, map_set_same, none_some, some_same, zeros}
+use Rattle.std.proofs.Math.Seq.{map-set_same}
+use Rattle.theory.proofs.Lists.{In, in_set_back, in_zeros, map_same, none_some, some_same, zeros}
 use Rattle.theory.proofs.Memory.{Alike, Forwarding, HasBlock, Mem, OneBlockEach, Wrote, bare, bare_alike, form, wrote_back}
 use Rattle.theory.proofs.Records.{find, find_in, find_last, find_push, find_put_other, find_put_same, put_record, record_of}
 
@@ -149,7 +150,7 @@ module _ {own : ℕ → ℕ} {ns : List Record} {xs ys : List ℕ} where
                 forward = refl;
                 stays = subst (HasBlock N) (sym here) (there n (b, is));
                 words = refl;
-                refs = λ e. map_set_same own b.refs f (form M r) (owner_form so.zero_free s r (ref_names r ri) ∙ ap own (sym at));
+                refs = λ e. map-set_same own b.refs f (form M r) 0 (owner_form so.zero_free s r (ref_names r ri) ∙ ap own (sym at));
                 names = λ e q i. ⊎_elim
                     (λ (g : form M r ≡ q). subst (NilOr (HasBlock N)) g (names (form M r) (nil_or_form so.zero_free s r (ref_names r ri))))
                     (λ j. names q (ref_names q j))
@@ -479,7 +480,7 @@ module _ {M H N : Mem} {L : ℕ → Type 0} {own : ℕ → ℕ} {ns : List Recor
         (z.0, move_other x.forward j (λ f. o.0 (alone m x (all m x o.2) o.2 f)) ∙ z.1, z.2))
         (move_back m x e);
     marks = λ m x e t. ⊎_elim
-        (λ (g : x ≡ c). let z : true ≡ false = sym t ∙ ap (λ (y : Block). y.marked) g ∙ un in let q : ◌≡◌ {A = ℕ} 0 1 = cc in absurd (omega arith))
+        (λ (g : x ≡ c). let z : true ≡ false = sym t ∙ ap (λ (y : Block). y.marked) g ∙ un in cc)
         (λ (o : (m ≢ from) × (m ≢ to) × (M m ≡ Some x)). so.marks m x o.2 t)
         (move_back m x e);
   }

@@ -8,15 +8,14 @@ use super::Collector;
 use crate::phase::Phase;
 
 impl Collector {
-    // The first page in which a new record is marked.
+    // The first page in which a new record is marked; 64, past the last, where none is: a bound and no lack of one.
     fn mark_from(&self) -> usize
         ensures { (g : ℕ) → g < 64 → nat_le result g ≡ allocated_marked (heap_of self.now).phase g }
     {
         match self.phase {
-            Phase::Roots { .. } => 0,
-            Phase::Marking => 0,
+            Phase::Roots { .. } | Phase::Marking => 0,
             Phase::Sweeping { page } => page,
-            _ => 64,
+            Phase::Idle | Phase::Moving { .. } => 64,
         }
     }
 
@@ -26,6 +25,6 @@ impl Collector {
         ensures heap { heap_of self.new ≡ new_heap (heap_of self.old) r d }
     {
         let from = self.mark_from();
-        self.heap.make(r, d, from)
+        self.tracing.heap.make(r, d, from)
     }
 }

@@ -4,7 +4,7 @@ ghost use Rattle.model.specs.Classes.{sizes};
 ghost use Rattle.model.specs.Pages.{page_at};
 ghost use Rattle.model.specs.Units.{moving_unit, move_to, target_page, lowest_current_block};
 ghost use Rattle.heap.specs.View.{view};
-ghost use Rattle.collector.specs.View.{heap_of, left_of};
+ghost use Rattle.collector.specs.View.{heap_of, Advances};
 ghost use Rattle.collector.specs.Moving.{next_of};
 
 use super::Collector;
@@ -30,10 +30,9 @@ impl Collector {
     fn choose(&mut self, class: usize)
         requires { self.old.phase ≡ Phase.Moving class None }
         ensures heap { heap_of self.new ≡ moving_unit (heap_of self.old) class None self.old.targets }
-        ensures units { self.new.units ≡ self.old.units }
-        ensures left { left_of self.new < left_of self.old }
+        ensures advance { Advances self.old self.new }
     {
-        match self.heap.close_source(class, self.targets) {
+        match self.tracing.heap.close_source(class, self.targets) {
             None => {
                 self.phase = after_class(class);
             }
@@ -49,16 +48,16 @@ impl Collector {
     // Block `s` of the source goes to another page of the class, or the source opens and the class is done.
     fn move_one(&mut self, class: usize, g: usize, s: usize)
         requires phase { self.old.phase ≡ Phase.Moving class (Some g) }
-        requires slot { lowest_current_block g 0 (page_at (view self.old.heap) g).slots ≡ Some s }
+        requires slot { lowest_current_block g 0 (page_at (view self.old.tracing.heap) g).slots ≡ Some s }
         ensures heap { heap_of self.new ≡ move_to (heap_of self.old) class self.old.targets g s
-            (target_page (view self.old.heap) (slice_index sizes class)) }
-        ensures units { self.new.units ≡ self.old.units }
-        ensures left { left_of self.new < left_of self.old }
+            (target_page (view self.old.tracing.heap) (slice_index sizes class)) }
+        ensures advance { Advances self.old self.new }
     {
+        // the heap's own function for this asks for bounds, and no public function asks anything
         let n = (64 * g + s + 1) as u32;
-        match self.heap.move_block(n) {
+        match self.tracing.heap.move_block(n) {
             None => {
-                self.heap.reopen(g);
+                self.tracing.heap.reopen(g);
                 self.phase = after_class(class);
             }
             Some(t) => {
@@ -71,10 +70,9 @@ impl Collector {
     fn move_from(&mut self, class: usize, g: usize)
         requires { self.old.phase ≡ Phase.Moving class (Some g) }
         ensures heap { heap_of self.new ≡ moving_unit (heap_of self.old) class (Some g) self.old.targets }
-        ensures units { self.new.units ≡ self.old.units }
-        ensures left { left_of self.new < left_of self.old }
+        ensures advance { Advances self.old self.new }
     {
-        match self.heap.lowest_current(g) {
+        match self.tracing.heap.lowest_current(g) {
             None => {
                 self.phase = Phase::Moving {
                     class,
@@ -89,8 +87,7 @@ impl Collector {
     pub(super) fn move_unit(&mut self, class: usize, source: Option<usize>)
         requires { self.old.phase ≡ Phase.Moving class source }
         ensures heap { heap_of self.new ≡ moving_unit (heap_of self.old) class source self.old.targets }
-        ensures units { self.new.units ≡ self.old.units }
-        ensures left { left_of self.new < left_of self.old }
+        ensures advance { Advances self.old self.new }
     {
         match source {
             None => self.choose(class),

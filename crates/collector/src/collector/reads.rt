@@ -1,5 +1,5 @@
 // A new collector, and what its blocks hold.
-ghost use Rattle.std.specs.Prelude.{◌≡◌, ℕ, ◌+◌, ◌<◌, ◌≤◌, length, is_some, slice_index};
+ghost use Rattle.std.specs.Prelude.{◌≡◌, ℕ, ◌+◌, ◌<◌, ◌≤◌, length, is_some, slice_get};
 ghost use Rattle.model.specs.Pages.{block_at, current, refs_of, words_of, count_pages, is_uncut, count_of_current_blocks, husks};
 ghost use Rattle.model.specs.State.{fresh};
 ghost use Rattle.model.specs.Calls.{alter};
@@ -9,17 +9,21 @@ ghost use Rattle.collector.specs.View.{heap_of};
 
 use super::Collector;
 use crate::phase::Phase;
+use crate::tracing::Tracing;
+use arrayvec::ArrayVec;
 use heap::heap::Heap;
 
+// The heap answers; it is not lent out, so that a caller's clauses speak of `heap_of` alone.
 impl Collector {
     // No block, and no collection.
     pub fn new() -> Collector
         ensures { (h a : ℕ) → heap_of result ≡ (fresh h a).heap }
     {
         Collector {
-            heap: Heap::new(),
-            items: [0; 4096],
-            top: 0,
+            tracing: Tracing {
+                heap: Heap::new(),
+                work: ArrayVec::new(),
+            },
             phase: Phase::Idle,
             targets: 0,
             units: 0,
@@ -37,69 +41,69 @@ impl Collector {
     pub fn is_block(&self, n: u32) -> bool
         ensures { result ≡ is_some (block_at (heap_of self.now).pages n) }
     {
-        self.heap.lookup(n).is_some()
+        self.tracing.heap.lookup(n).is_some()
     }
 
-    // The current form of a number, nil where it names no block.
+    // The current form of a number, nil where it names no block: nil is a form, so no option.
     pub fn current(&self, n: u32) -> u32
         ensures { result ≡ current (heap_of self.now).pages n }
     {
-        self.heap.current(n)
+        self.tracing.heap.current(n)
     }
 
-    // How many references and how many words the block has.
+    // How many references and how many words the block has, none where there is no block: a pair in every case.
     pub fn shape(&self, n: u32) -> (u32, u32)
         ensures { result ≡ shape_of (block_at (heap_of self.now).pages n) }
     {
-        self.heap.shape(n)
+        self.tracing.heap.shape(n)
     }
 
-    // Reference `f` of the block, nil where there is none.
-    pub fn reference(&self, n: u32, f: u32) -> u32
-        ensures { result ≡ slice_index (refs_of (block_at (heap_of self.now).pages n)) f }
+    // Reference `f` of the block, if there is one.
+    pub fn reference(&self, n: u32, f: u32) -> Option<u32>
+        ensures { result ≡ slice_get (refs_of (block_at (heap_of self.now).pages n)) f }
     {
-        self.heap.read_reference(n, f)
+        self.tracing.heap.read_reference(n, f)
     }
 
-    // Word `w` of the block, 0 where there is none.
-    pub fn word(&self, n: u32, w: u32) -> u32
-        ensures { result ≡ slice_index (words_of (block_at (heap_of self.now).pages n)) w }
+    // Word `w` of the block, if there is one.
+    pub fn word(&self, n: u32, w: u32) -> Option<u32>
+        ensures { result ≡ slice_get (words_of (block_at (heap_of self.now).pages n)) w }
     {
-        self.heap.read_word(n, w)
+        self.tracing.heap.read_word(n, w)
     }
 
     // Word `w` of the block gets the value, if there is one.
     pub fn set_word(&mut self, n: u32, w: u32, v: u32)
         ensures { heap_of self.new ≡ alter (heap_of self.old) n (λ b. with_value b w v) (block_at (heap_of self.old).pages n) }
     {
-        self.heap.write_word(n, w, v);
+        self.tracing.heap.write_word(n, w, v);
     }
 
     // How many blocks are current.
     pub fn current_blocks(&self) -> u32
         ensures { result ≡ count_of_current_blocks (heap_of self.now).pages }
     {
-        self.heap.current_blocks()
+        self.tracing.heap.current_blocks()
     }
 
     // How many blocks forward to a copy of theirs.
     pub fn husks(&self) -> u32
         ensures { result ≡ husks (heap_of self.now).pages }
     {
-        self.heap.husks()
+        self.tracing.heap.husks()
     }
 
     // How many pages are uncut.
     pub fn uncut_pages(&self) -> u32
         ensures { result ≡ count_pages is_uncut (heap_of self.now).pages }
     {
-        self.heap.uncut_pages()
+        self.tracing.heap.uncut_pages()
     }
 
     // How many pages are closed.
     pub fn closed_pages(&self) -> u32
         ensures { result ≡ count_pages (λ p. p.closed) (heap_of self.now).pages }
     {
-        self.heap.closed_pages()
+        self.tracing.heap.closed_pages()
     }
 }

@@ -1,7 +1,7 @@
 // The units of sweeping.
 ghost use Rattle.std.specs.Prelude.{◌≡◌, ℕ, ◌+◌, ◌<◌, ◌≤◌};
 ghost use Rattle.model.specs.Units.{sweeping_unit};
-ghost use Rattle.collector.specs.View.{heap_of, left_of};
+ghost use Rattle.collector.specs.View.{heap_of, Advances};
 
 use super::Collector;
 use crate::phase::Phase;
@@ -11,13 +11,12 @@ impl Collector {
     pub(super) fn sweep_unit(&mut self, page: usize)
         requires { self.old.phase ≡ Phase.Sweeping page }
         ensures heap { heap_of self.new ≡ sweeping_unit (heap_of self.old) page }
-        ensures units { self.new.units ≡ self.old.units }
-        ensures left { left_of self.new < left_of self.old }
+        ensures advance { Advances self.old self.new }
     {
-        self.heap.sweep(page);
+        self.tracing.heap.sweep(page);
         if page < 63 {
             self.phase = Phase::Sweeping { page: page + 1 };
-        } else if self.heap.uncut_pages() >= 20 {
+        } else if self.tracing.heap.uncut_pages() >= 20 {
             self.phase = Phase::Idle;
         } else {
             self.targets = 0;

@@ -3,7 +3,7 @@ ghost use Rattle.std.specs.Prelude.{◌≡◌, ℕ, suc, ◌+◌, ◌<◌, ◌�
 ghost use Rattle.model.specs.State.{roots, marking, with_phase, running};
 ghost use Rattle.model.specs.Units.{one_more};
 ghost use Rattle.model.specs.Calls.{begun};
-ghost use Rattle.collector.specs.View.{heap_of, left_of, own_unit, root_of, root_unit_by};
+ghost use Rattle.collector.specs.View.{heap_of, Advances, left_of, own_unit, root_of, root_unit_by};
 
 use super::Collector;
 use crate::phase::Phase;
@@ -13,7 +13,7 @@ impl Collector {
     pub fn begin(&mut self)
         ensures { heap_of self.new ≡ begun (heap_of self.old) }
     {
-        self.top = 0;
+        self.tracing.work.clear();
         self.units = 0;
         self.phase = Phase::Roots { next: 0 };
     }
@@ -22,10 +22,7 @@ impl Collector {
     pub fn is_running(&self) -> bool
         ensures { result ≡ running (heap_of self.now).phase }
     {
-        match self.phase {
-            Phase::Idle => false,
-            _ => true,
-        }
+        !matches!(self.phase, Phase::Idle)
     }
 
     // The place that the next unit takes a root from, if it takes one.
@@ -60,10 +57,9 @@ impl Collector {
     fn next_place(&mut self, next: u16, places: u16)
         requires { self.old.phase ≡ Phase.Roots next }
         ensures heap { heap_of self.new ≡ with_phase (heap_of self.old) (if nat_lt (suc next) places then roots (suc next) else marking) }
-        ensures units { self.new.units ≡ self.old.units }
-        ensures left { left_of self.new < left_of self.old }
+        ensures advance { Advances self.old self.new }
     {
-        if places > 0 && next < places - 1 {
+        if next < places.saturating_sub(1) {
             self.phase = Phase::Roots { next: next + 1 };
         } else {
             self.phase = Phase::Marking;
@@ -75,20 +71,11 @@ impl Collector {
         ensures { heap_of self.new ≡ own_unit (heap_of self.old) (heap_of self.old).phase }
     {
         match self.phase {
-            Phase::Marking => {
-                self.mark_unit();
-                self.count_unit();
-            }
-            Phase::Sweeping { page } => {
-                self.sweep_unit(page);
-                self.count_unit();
-            }
-            Phase::Moving { class, source } => {
-                self.move_unit(class, source);
-                self.count_unit();
-            }
-            Phase::Idle => {}
-            Phase::Roots { .. } => {}
+            Phase::Idle | Phase::Roots { .. } => return,
+            Phase::Marking => self.mark_unit(),
+            Phase::Sweeping { page } => self.sweep_unit(page),
+            Phase::Moving { class, source } => self.move_unit(class, source),
         }
+        self.count_unit();
     }
 }

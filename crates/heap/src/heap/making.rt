@@ -1,21 +1,19 @@
 // A new block.
-ghost use Rattle.std.specs.Prelude.{◌≡◌, ℕ, ◌+◌, ◌*◌, ◌<◌, ◌≤◌, length};
+ghost use Rattle.std.specs.Prelude.{◌≡◌, ◌+◌, ◌≤◌, length};
 ghost use Rattle.heap.specs.Blocks.{Written};
 ghost use Rattle.heap.specs.View.{view, new_number, new_pages};
 
 use super::Heap;
-use pages::classes::fitting;
+use crate::number::number_of;
 
-// The number, the shape and zeros into the first words of a block.
+// The number, the shape and zeros into the first words of a block. The page comes whole: no proof covers a part of it lent out of a heap.
 fn clear(words: &mut [u32; 256], at: usize, n: u32, shape: u32, len: usize)
     requires { (2 ≤ len) × ((at + len ≤ 256) × (length words.old ≡ 256)) }
     ensures { Written words.old words.new at n shape len }
 {
     words[at] = n;
     words[at + 1] = shape;
-    for j in 2..len {
-        words[at + j] = 0;
-    }
+    words[at + 2..at + len].fill(0);
 }
 
 impl Heap {
@@ -28,19 +26,10 @@ impl Heap {
             return None;
         }
         let len = (2 + r + d) as usize;
-        match self.pages.allocate(len, mark_from) {
-            None => None,
-            Some((page, slot)) => {
-                let n = (64 * page + slot + 1) as u32;
-                clear(
-                    &mut self.words[page],
-                    slot * fitting(len),
-                    n,
-                    r + 32 * d,
-                    len,
-                );
-                Some(n)
-            }
-        }
+        let (page, slot) = self.pages.allocate(len, mark_from)?;
+        let n = number_of(page, slot);
+        let at = slot * self.pages.size(page);
+        clear(&mut self.words[page], at, n, r + 32 * d, len);
+        Some(n)
     }
 }

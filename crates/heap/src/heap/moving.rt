@@ -1,5 +1,5 @@
 // A block is moved.
-ghost use Rattle.std.specs.Prelude.{◌≡◌, ℕ, ◌+◌, ◌*◌, ◌<◌, ◌≤◌, true, [], length, ◌≢◌, slice_index_or};
+ghost use Rattle.std.specs.Prelude.{◌≡◌, ◌+◌, ◌<◌, ◌≤◌, true, [], length, ◌≢◌, slice_index_or};
 ghost use Rattle.model.specs.Pages.{number, block_at};
 ghost use Rattle.model.specs.Units.{close_page, target_page};
 ghost use Rattle.model.specs.Calls.{if_some};
@@ -9,26 +9,27 @@ ghost use Rattle.heap.specs.Blocks.{Located, Copied};
 ghost use Rattle.heap.specs.View.{view, target_of, target_number, moved_to};
 
 use super::Heap;
+use crate::number::number_of;
 
 // The words of a block go to another page, but for the first: that is the number of the copy in both.
+// Each of the two lies in a page from a word of it on.
 fn copy_block(
     words: &mut [[u32; 256]; 64],
-    g: usize,
-    from: usize,
-    t: usize,
-    to: usize,
+    from: (usize, usize),
+    to: (usize, usize),
     len: usize,
     n: u32,
 )
-    requires pages { (g < 64) × ((t < 64) × ((g ≢ t))) }
-    requires within { (1 ≤ len) × ((from + len ≤ 256) × (to + len ≤ 256)) }
-    requires long { (length words.old ≡ 64) × ((length (slice_index_or words.old g []) ≡ 256) × (length (slice_index_or words.old t []) ≡ 256)) }
-    ensures { Copied words.old words.new g from t to len n }
+    requires pages { (from.0 < 64) × ((to.0 < 64) × ((from.0 ≢ to.0))) }
+    requires within { (1 ≤ len) × ((from.1 + len ≤ 256) × (to.1 + len ≤ 256)) }
+    requires long { (length words.old ≡ 64) × ((length (slice_index_or words.old from.0 []) ≡ 256) × (length (slice_index_or words.old to.0 []) ≡ 256)) }
+    ensures { Copied words.old words.new from.0 from.1 to.0 to.1 len n }
 {
-    words[g][from] = n;
-    words[t][to] = n;
+    words[from.0][from.1] = n;
+    words[to.0][to.1] = n;
+    // both pages lie in one array: to lend a slice of each, it would be split between them, or one page copied whole for a few words
     for k in 1..len {
-        words[t][to + k] = words[g][from + k];
+        words[to.0][to.1 + k] = words[from.0][from.1 + k];
     }
 }
 
@@ -46,15 +47,11 @@ impl Heap {
         ensures target { result ≡ target_number (target_of (view self.old) n (block_at (view self.old) n)) }
         ensures view { view self.new ≡ moved_to (view self.old) n (target_of (view self.old) n (block_at (view self.old) n)) }
     {
-        match self.find(n) {
-            None => None,
-            Some((g, s)) => {
-                if !self.pages.is_closed(g) {
-                    return None;
-                }
-                self.move_found(g, s)
-            }
+        let (g, s) = self.find(n)?;
+        if !self.pages.is_closed(g) {
+            return None;
         }
+        self.move_found(g, s)
     }
 
     fn move_found(&mut self, g: usize, s: usize) -> Option<usize>
@@ -65,13 +62,15 @@ impl Heap {
     {
         let size = self.pages.size(g);
         let marked = self.pages.is_marked(g, s);
-        match self.pages.take_target(size, marked) {
-            None => None,
-            Some((t, z)) => {
-                let copy = (64 * t + z + 1) as u32;
-                copy_block(&mut self.words, g, s * size, t, z * size, size, copy);
-                Some(t)
-            }
-        }
+        let (page, slot) = self.pages.take_target(size, marked)?;
+        let copy = number_of(page, slot);
+        copy_block(
+            &mut self.words,
+            (g, s * size),
+            (page, slot * size),
+            size,
+            copy,
+        );
+        Some(page)
     }
 }

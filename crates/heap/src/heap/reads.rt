@@ -1,5 +1,5 @@
 // A new heap, and what its blocks hold.
-ghost use Rattle.std.specs.Prelude.{◌≡◌, ℕ, ◌+◌, ◌/◌, ◌%◌, ◌<◌, ◌≤◌, length, replicate, slice_index};
+ghost use Rattle.std.specs.Prelude.{◌≡◌, replicate, slice_get};
 ghost use Rattle.model.specs.Pages.{uncut, block_at, current, refs_of, words_of};
 ghost use Rattle.heap.specs.Blocks.{place};
 ghost use Rattle.heap.specs.View.{view, shape_of, white_of};
@@ -26,69 +26,44 @@ impl Heap {
         self.find(n)
     }
 
-    // The current form of a number, nil where it names no block.
+    // The current form of a number, nil where it names no block: nil is a form, so no option.
     pub fn current(&self, n: u32) -> u32
         ensures { result ≡ current (view self.now) n }
     {
-        match self.find(n) {
-            None => 0,
-            Some((g, s)) => self.word(g, s, 0),
-        }
+        self.find(n).map_or(0, |(g, s)| self.word(g, s, 0))
     }
 
-    // How many references and how many words the block has.
+    // How many references and how many words the block has, none where there is no block: a pair in every case.
     pub fn shape(&self, n: u32) -> (u32, u32)
         ensures { result ≡ shape_of (block_at (view self.now) n) }
     {
-        match self.find(n) {
-            None => (0, 0),
-            Some((g, s)) => {
-                let w = self.word(g, s, 1);
-                (w % 32, w / 32)
-            }
-        }
+        self.find(n).map_or((0, 0), |(g, s)| {
+            let w = self.word(g, s, 1);
+            (w % 32, w / 32)
+        })
     }
 
-    // Reference `f` of the block, nil where there is none.
-    pub fn read_reference(&self, n: u32, f: u32) -> u32
-        ensures { result ≡ slice_index (refs_of (block_at (view self.now) n)) f }
+    // Reference `f` of the block, if there is one.
+    pub fn read_reference(&self, n: u32, f: u32) -> Option<u32>
+        ensures { result ≡ slice_get (refs_of (block_at (view self.now) n)) f }
     {
-        match self.find(n) {
-            None => 0,
-            Some((g, s)) => {
-                if f < self.word(g, s, 1) % 32 {
-                    self.word(g, s, 2 + f as usize)
-                } else {
-                    0
-                }
-            }
-        }
+        let (g, s, j) = self.reference_at(n, f)?;
+        Some(self.word(g, s, j))
     }
 
-    // Word `w` of the block, 0 where there is none.
-    pub fn read_word(&self, n: u32, w: u32) -> u32
-        ensures { result ≡ slice_index (words_of (block_at (view self.now) n)) w }
+    // Word `w` of the block, if there is one: where the two lie is said once each, so that these are two lines.
+    pub fn read_word(&self, n: u32, w: u32) -> Option<u32>
+        ensures { result ≡ slice_get (words_of (block_at (view self.now) n)) w }
     {
-        match self.find(n) {
-            None => 0,
-            Some((g, s)) => {
-                let shape = self.word(g, s, 1);
-                if w < shape / 32 {
-                    self.word(g, s, 2 + (shape % 32 + w) as usize)
-                } else {
-                    0
-                }
-            }
-        }
+        let (g, s, j) = self.word_at(n, w)?;
+        Some(self.word(g, s, j))
     }
 
     // Whether the number names a block that is not marked.
     pub fn is_white(&self, n: u32) -> bool
         ensures { result ≡ white_of (block_at (view self.now) n) }
     {
-        match self.find(n) {
-            None => false,
-            Some((g, s)) => !self.pages.is_marked(g, s),
-        }
+        self.find(n)
+            .is_some_and(|(g, s)| !self.pages.is_marked(g, s))
     }
 }

@@ -1,5 +1,5 @@
 // Pages are swept, and opened again.
-ghost use Rattle.std.specs.Prelude.{◌≡◌, ℕ, false, slice_set};
+ghost use Rattle.std.specs.Prelude.{◌≡◌, false, slice_set};
 ghost use Rattle.model.specs.Pages.{page_at};
 ghost use Rattle.model.specs.Units.{swept, close_page};
 ghost use Rattle.heap.specs.View.{view, LeavesMarked};

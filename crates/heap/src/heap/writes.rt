@@ -1,5 +1,5 @@
 // References, words and marks are written.
-ghost use Rattle.std.specs.Prelude.{◌≡◌, ℕ, ◌+◌, ◌/◌, ◌%◌, ◌<◌, ◌≤◌};
+ghost use Rattle.std.specs.Prelude.{◌≡◌};
 ghost use Rattle.heap.specs.Blocks.{write_ref, marking};
 ghost use Rattle.heap.specs.View.{view, write_word};
 
@@ -10,22 +10,17 @@ impl Heap {
     pub fn write_reference(&mut self, n: u32, f: u32, v: u32)
         ensures { view self.new ≡ write_ref (view self.old) n f v }
     {
-        if let Some((g, s)) = self.find(n) {
-            if f < self.word(g, s, 1) % 32 {
-                self.set_word(g, s, 2 + f as usize, v);
-            }
+        if let Some((g, s, j)) = self.reference_at(n, f) {
+            self.set_word(g, s, j, v);
         }
     }
 
-    // Word `w` of the block gets the value, if there is one.
+    // Word `w` of the block gets the value, if there is one: three lines like those for a reference, which name where it lies.
     pub fn write_word(&mut self, n: u32, w: u32, v: u32)
         ensures { view self.new ≡ write_word (view self.old) n w v }
     {
-        if let Some((g, s)) = self.find(n) {
-            let shape = self.word(g, s, 1);
-            if w < shape / 32 {
-                self.set_word(g, s, 2 + (shape % 32 + w) as usize, v);
-            }
+        if let Some((g, s, j)) = self.word_at(n, w) {
+            self.set_word(g, s, j, v);
         }
     }
 

@@ -1,8 +1,8 @@
-use Rattle.std.proofs.Common.{◌≡◌, replicate, None}
-use Rattle.holders.proofs.Wipes.{wipe}
+use Rattle.std.proofs.Common.{◌≡◌, take, replicate, None}
 use Rattle.holders.proofs.clearing.clear_agenda.Given as goal
 
 abbrev pub invariant-loop-i : goal.invariant-loop-i
-invariant-loop-i g l =
-    (wipe 0 l.i (g.A.Holder.row l.agenda) ≡ replicate g.A.Holder.places 0)
-    × (wipe None l.i (g.A.Agenda.keys l.agenda) ≡ replicate g.A.Holder.places None)
+invariant-loop-i g l = record {
+  numbers : g.A.Holder.row l.agenda ≡ replicate g.A.Holder.PLACES 0;
+  keys : take l.i (g.A.Agenda.keys l.agenda) ≡ replicate l.i None;
+}

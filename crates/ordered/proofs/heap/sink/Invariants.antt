@@ -1,11 +1,14 @@
-use Rattle.std.proofs.Common.{◌-◌, ◌<◌}
-use Rattle.holders.specs.Keys.{keyed, sooner}
-use Rattle.ordered.specs.Heaps.{at, Members, Near, Under}
+use Rattle.std.proofs.Common.{◌-◌, ◌<◌, length}
+use Rattle.holders.specs.Keys.{sooner}
+use Rattle.ordered.specs.Heaps.{at, Entered, InOrderBut, Under}
 use Rattle.ordered.proofs.heap.sink.Given as goal
 
 abbrev pub invariant-loop-i : goal.invariant-loop-i
-invariant-loop-i l = (l.i < l.count) × Members (keyed l.table.keys) (at l.entries) l.count
-    × (Near (sooner l.table.keys) (at l.entries) l.count l.i × Under (sooner l.table.keys) (at l.entries) l.i)
+invariant-loop-i l = record {
+  entry : l.i < length l.entries;
+  entered : Entered l.table.keys l.entries;
+  near : InOrderBut l.table.keys l.entries l.i × Under (sooner l.table.keys) (at l.entries) l.i;
+}
 
 abbrev pub decreases-loop-i : goal.decreases-loop-i
-decreases-loop-i l = l.count - l.i
+decreases-loop-i l = length l.entries - l.i

@@ -1,9 +1,8 @@
-use Rattle.std.proofs.Common.{◌≡◌, List, sym, refl, ap, ◌∙◌, subst, arith}
+use Rattle.std.proofs.Common.{◌≡◌, List, sym, refl, ap, ◌∙◌, subst, arith, length}
 use Rattle.model.specs.Pages.{Page}
 use Rattle.model.specs.State.{with_pages}
 use Rattle.heap.specs.View.{view, new_pages}
 use Rattle.collector.specs.View.{heap_of}
-use Rattle.collector.proofs.Sounds.{placed_in}
 use Rattle.collector.proofs.Makes.{Harmless, made_harmless, made_heap}
 use Rattle.collector.proofs.collector.Collector.make.Goals as goal
 
@@ -11,26 +10,21 @@ pub invariant_of-self : goal.invariant_of-self
 invariant_of-self c =
     let h = c.args.self.now in
     let qs : List Page = view c.make.new.self in
-    let e : qs ≡ new_pages (view h.heap) c.args.r c.args.d c.mark_from-from.result = c.make.ensures.view in
-    let H : List Page → Type 0 = λ x. Harmless h.heap c.args.r c.args.d c.mark_from-from.result h.targets h.top h.phase c.mark_from-from.ensures (placed_in h.phase (view h.heap) h.sited) x in
-    let k = subst H (sym e) (made_harmless h.heap c.args.r c.args.d c.mark_from-from.result h.targets h.top h.phase c.mark_from-from.ensures (placed_in h.phase (view h.heap) h.sited)) in
+    let e : qs ≡ new_pages (view h.tracing.heap) c.args.r c.args.d c.mark_from-from.result = c.make.ensures.view in
+    let H : List Page → Type 0 = λ x. Harmless h.tracing.heap c.args.r c.args.d c.mark_from-from.result h.targets (length h.tracing.work.items) h.phase c.mark_from-from.ensures h.sited x in
+    let k = subst H (sym e) (made_harmless h.tracing.heap c.args.r c.args.d c.mark_from-from.result h.targets (length h.tracing.work.items) h.phase c.mark_from-from.ensures h.sited) in
     let a = k.lefts in
     let b = k.presses in
     let u = h.fuel in
     let v = h.spare in
     record {
-      room = h.room;
       spare = omega arith;
       fuel = omega arith;
       sited = k.places;
     }
 
-pub returns : goal.returns
-returns c =
+pub returns-clause-heap : goal.returns-clause-heap
+returns-clause-heap c =
     let h = c.args.self.now in
-    record {
-      number = c.make.ensures.number;
-      heap =
-          ap (with_pages (heap_of h)) c.make.ensures.view
-          ∙ made_heap h.heap c.args.r c.args.d c.mark_from-from.result h.targets h.top h.phase c.mark_from-from.ensures (placed_in h.phase (view h.heap) h.sited) (heap_of h) refl refl;
-    }
+    ap (with_pages (heap_of h)) c.make.ensures.view
+    ∙ made_heap h.tracing.heap c.args.r c.args.d c.mark_from-from.result h.targets (length h.tracing.work.items) h.phase c.mark_from-from.ensures h.sited (heap_of h) refl refl

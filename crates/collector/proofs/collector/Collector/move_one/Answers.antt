@@ -1,4 +1,4 @@
-use Rattle.std.proofs.Common.{◌≡◌, ℕ, ◌<◌, true, false, List, get_or, Some, None, Option, sym, refl, ap, ◌∙◌, subst, ap₂, arith}
+use Rattle.std.proofs.Common.{◌≡◌, ℕ, ◌<◌, false, List, get_or, Some, None, sym, refl, ap, ◌∙◌, subst, ap₂, arith, length}
 use Rattle.model.specs.Classes.{sizes}
 use Rattle.model.specs.Maps.{with_flag_set}
 use Rattle.model.specs.Pages.{Page, number, page_at, block_at, put_block, lowest_free}
@@ -9,96 +9,90 @@ use Rattle.heap.proofs.Views.{long, few_slots}
 use Rattle.collector.specs.declared.collector.Collector.{Collector}
 use Rattle.collector.specs.declared.phase.Phase.{Phase}
 use Rattle.collector.specs.declared.phase.Phase.TheVariants.{Moving}
-use Rattle.collector.specs.Sound.{left, pressed, placed, Placed, Source}
+use Rattle.collector.specs.Sound.{left, pressed, Placed}
 use Rattle.collector.specs.Moving.{next_of}
 use Rattle.collector.specs.View.{heap_of, stage}
-use Rattle.collector.proofs.Sounds.{placed_in}
+use Rattle.collector.proofs.Phases.{placed_at, left_at}
 use Rattle.collector.proofs.Moves.{Target, Moved, done_left, done_pressed, done_placed, done_stage, reopen_spent, to_move, block_there, target, apart, moved_left, moved_placed, target_in, no_target, a_target}
 use Rattle.collector.proofs.collector.Collector.move_one.Goals as goal
 
--- what the phase says
-at : (h : Collector) (k : ℕ) (s : Option ℕ) → h.phase ≡ Moving k s → (k < 20) × Source k s (view h.heap)
-at h k s e = let P : Phase → Type 0 = λ x. Placed x (view h.heap) in subst P e (placed_in h.phase (view h.heap) h.sited)
-
-was : (h : Collector) (k : ℕ) (s : Option ℕ) → h.phase ≡ Moving k s → left h.phase (view h.heap) h.top ≡ left (Moving k s) (view h.heap) h.top
-was h k s e = ap (λ (x : Phase). left x (view h.heap) h.top) e
-
 -- the class is done, and the source is open again
-module _ (h : Collector) (k g : ℕ) (ph : Phase) (qs : List Page) (e : h.phase ≡ Moving k (Some g)) (is : ph ≡ next_of k) (v : qs ≡ close_page (view h.heap) g false) where
-  done : left ph qs h.top < left h.phase (view h.heap) h.top
+module _ (h : Collector) (k g : ℕ) (ph : Phase) (qs : List Page) (e : h.phase ≡ Moving k (Some g)) (is : ph ≡ next_of k) (v : qs ≡ close_page (view h.tracing.heap) g false) where
+  done : left ph qs (length h.tracing.work.items) < left h.phase (view h.tracing.heap) (length h.tracing.work.items)
   done =
-      let a = at h k (Some g) e in
+      let a = placed_at h (Moving k (Some g)) e in
       let b = a.1.0 in
-      let n = long h.heap in
-      let w = was h k (Some g) e in
-      let s = reopen_spent (view h.heap) qs k g (omega arith) v in
-      let d = done_left (view h.heap) qs k h.top (Some g) a.0 s in
-      let x = ap (λ (y : Phase). left y qs h.top) is in
+      let n = long h.tracing.heap in
+      let w = left_at h (Moving k (Some g)) e in
+      let s = reopen_spent (view h.tracing.heap) qs k g (omega arith) v in
+      let d = done_left (view h.tracing.heap) qs k (length h.tracing.work.items) (Some g) a.0 s in
+      let x = ap (λ (y : Phase). left y qs (length h.tracing.work.items)) is in
       omega arith
 
 -- the block at hand
-module _ (h : Collector) (k g s : ℕ) (e : h.phase ≡ Moving k (Some g)) (slot : lowest_current_block g 0 (page_at (view h.heap) g).slots ≡ Some s) where
-  block : Moved (view h.heap) g s
-  block = to_move (view h.heap) g s slot
+module _ (h : Collector) (k g s : ℕ) (e : h.phase ≡ Moving k (Some g)) (slot : lowest_current_block g 0 (page_at (view h.tracing.heap) g).slots ≡ Some s) where
+  block : Moved (view h.tracing.heap) g s
+  block = to_move (view h.tracing.heap) g s slot
 
   low : g < 64
-  low = (at h k (Some g) e).1.0
+  low = (placed_at h (Moving k (Some g)) e).1.0
 
   short : s < 64
-  short = let w = block.within in let f = few_slots h.heap g low in omega arith
+  short = let w = block.within in let f = few_slots h.tracing.heap g low in omega arith
 
-  there : block_at (view h.heap) (number g s) ≡ Some block.block
-  there = block_there (view h.heap) g s short block
+  there : block_at (view h.tracing.heap) (number g s) ≡ Some block.block
+  there = block_there (view h.tracing.heap) g s short block
 
-  target_is : target_of (view h.heap) (number g s) (block_at (view h.heap) (number g s)) ≡ target_page (view h.heap) (get_or sizes k 0)
-  target_is = target_in (view h.heap) k g s block.block short there (at h k (Some g) e).1.1 (at h k (Some g) e).1.2
+  target_is : target_of (view h.tracing.heap) (number g s) (block_at (view h.tracing.heap) (number g s)) ≡ target_page (view h.tracing.heap) (get_or sizes k 0)
+  target_is = target_in (view h.tracing.heap) k g s block.block short there (placed_at h (Moving k (Some g)) e).1.1 (placed_at h (Moving k (Some g)) e).1.2
 
   -- no page takes it
-  stays_put : None ≡ target_number (target_of (view h.heap) (number g s) (block_at (view h.heap) (number g s))) → target_page (view h.heap) (get_or sizes k 0) ≡ None
-  stays_put q = sym target_is ∙ no_target (target_of (view h.heap) (number g s) (block_at (view h.heap) (number g s))) q
+  stays_put : None ≡ target_number (target_of (view h.tracing.heap) (number g s) (block_at (view h.tracing.heap) (number g s))) → target_page (view h.tracing.heap) (get_or sizes k 0) ≡ None
+  stays_put q = sym target_is ∙ no_target (target_of (view h.tracing.heap) (number g s) (block_at (view h.tracing.heap) (number g s))) q
 
   -- it moves to page `t`
-  module _ (t : ℕ) (q : Some t ≡ target_number (target_of (view h.heap) (number g s) (block_at (view h.heap) (number g s)))) where
+  module _ (t : ℕ) (q : Some t ≡ target_number (target_of (view h.tracing.heap) (number g s) (block_at (view h.tracing.heap) (number g s)))) where
     figure : ℕ
-    figure = (a_target (target_of (view h.heap) (number g s) (block_at (view h.heap) (number g s))) t q).0
+    figure = (a_target (target_of (view h.tracing.heap) (number g s) (block_at (view h.tracing.heap) (number g s))) t q).0
 
-    found : target_page (view h.heap) (get_or sizes k 0) ≡ Some ((a_target (target_of (view h.heap) (number g s) (block_at (view h.heap) (number g s))) t q).0, t)
-    found = sym target_is ∙ (a_target (target_of (view h.heap) (number g s) (block_at (view h.heap) (number g s))) t q).1
+    found : target_page (view h.tracing.heap) (get_or sizes k 0) ≡ Some ((a_target (target_of (view h.tracing.heap) (number g s) (block_at (view h.tracing.heap) (number g s))) t q).0, t)
+    found = sym target_is ∙ (a_target (target_of (view h.tracing.heap) (number g s) (block_at (view h.tracing.heap) (number g s))) t q).1
 
-    chosen : Target (get_or sizes k 0) (view h.heap) t
-    chosen = target (get_or sizes k 0) (view h.heap) ((a_target (target_of (view h.heap) (number g s) (block_at (view h.heap) (number g s))) t q).0, t) found
+    chosen : Target (get_or sizes k 0) (view h.tracing.heap) t
+    chosen = target (get_or sizes k 0) (view h.tracing.heap) ((a_target (target_of (view h.tracing.heap) (number g s) (block_at (view h.tracing.heap) (number g s))) t q).0, t) found
 
     goal_low : t < 64
-    goal_low = let l = chosen.low in let n = long h.heap in omega arith
+    goal_low = let l = chosen.low in let n = long h.tracing.heap in omega arith
 
-    goal_slot : lowest_free (page_at (view h.heap) t).slots < 64
-    goal_slot = let r = chosen.room in let f = few_slots h.heap t goal_low in omega arith
+    goal_slot : lowest_free (page_at (view h.tracing.heap) t).slots < 64
+    goal_slot = let r = chosen.room in let f = few_slots h.tracing.heap t goal_low in omega arith
 
     differ : g ≡ t → ⊥
-    differ = apart (get_or sizes k 0) (view h.heap) t g chosen (at h k (Some g) e).1.1
+    differ = apart (get_or sizes k 0) (view h.tracing.heap) t g chosen (placed_at h (Moving k (Some g)) e).1.1
 
     abbrev copy : ℕ
-    copy = number t (lowest_free (page_at (view h.heap) t).slots)
+    copy = number t (lowest_free (page_at (view h.tracing.heap) t).slots)
 
-    module _ (qs : List Page) (v : qs ≡ moved_to (view h.heap) (number g s) (target_of (view h.heap) (number g s) (block_at (view h.heap) (number g s)))) where
-      moves : qs ≡ moved (view h.heap) (number g s) (number t (lowest_free (page_at (view h.heap) t).slots)) (block_at (view h.heap) (number g s))
-      moves = v ∙ ap (moved_to (view h.heap) (number g s)) (target_is ∙ found)
+    module _ (qs : List Page) (v : qs ≡ moved_to (view h.tracing.heap) (number g s) (target_of (view h.tracing.heap) (number g s) (block_at (view h.tracing.heap) (number g s)))) where
+      moves : qs ≡ moved (view h.tracing.heap) (number g s) (number t (lowest_free (page_at (view h.tracing.heap) t).slots)) (block_at (view h.tracing.heap) (number g s))
+      moves = v ∙ ap (moved_to (view h.tracing.heap) (number g s)) (target_is ∙ found)
 
-      ended : qs ≡ put_block (put_block (view h.heap) copy (with_forward block.block copy)) (number g s) (with_forward block.block copy)
-      ended = moves ∙ ap (moved (view h.heap) (number g s) copy) there
+      ended : qs ≡ put_block (put_block (view h.tracing.heap) copy (with_forward block.block copy)) (number g s) (with_forward block.block copy)
+      ended = moves ∙ ap (moved (view h.tracing.heap) (number g s) copy) there
 
-      falls : left h.phase qs h.top < left h.phase (view h.heap) h.top
+      falls : left h.phase qs (length h.tracing.work.items) < left h.phase (view h.tracing.heap) (length h.tracing.work.items)
       falls =
-          let a = moved_left (view h.heap) (long h.heap) g s t (lowest_free (page_at (view h.heap) t).slots) low short goal_low goal_slot differ block k h.top qs ended in
-          let b = was h k (Some g) e in
-          let c = ap (λ (y : Phase). left y qs h.top) e in
+          let a = moved_left (view h.tracing.heap) (long h.tracing.heap) g s t (lowest_free (page_at (view h.tracing.heap) t).slots) low short goal_low goal_slot differ block k (length h.tracing.work.items) qs ended in
+          let b = left_at h (Moving k (Some g)) e in
+          let c = ap (λ (y : Phase). left y qs (length h.tracing.work.items)) e in
           omega arith
 
-      stands : placed h.phase qs ≡ true
+      stands : Placed h.phase qs
       stands =
-          ap (λ (y : Phase). placed y qs) e
-          ∙ moved_placed (view h.heap) (long h.heap) g s t (lowest_free (page_at (view h.heap) t).slots) low short goal_low goal_slot differ block k qs ended
-          (sym (ap (λ (y : Phase). placed y (view h.heap)) e) ∙ h.sited)
+          let P : Phase → Type 0 = λ x. Placed x qs in
+          subst P (sym e)
+          (moved_placed (view h.tracing.heap) (long h.tracing.heap) g s t (lowest_free (page_at (view h.tracing.heap) t).slots) low short goal_low goal_slot differ block k qs ended
+          (placed_at h (Moving k (Some g)) e))
 
 -- the number of the block is small
 pub overflow_add-n : goal.overflow_add-n
@@ -128,16 +122,15 @@ invariant_of-self c =
     let qs : List Page = view c.reopen.new.self in
     let is : ph ≡ next_of k = c.after_class-self.ensures in
     let put = stays_put h k g c.args.s c.requires.phase c.requires.slot c.in-None.ensures.target in
-    let v : qs ≡ close_page (view h.heap) g false =
-    c.reopen.ensures ∙ ap (λ (ps : List Page). close_page ps g false) (c.in-None.ensures.view ∙ ap (moved_to (view h.heap) (number g c.args.s)) (target_is h k g c.args.s c.requires.phase c.requires.slot ∙ put)) in
+    let v : qs ≡ close_page (view h.tracing.heap) g false =
+    c.reopen.ensures ∙ ap (λ (ps : List Page). close_page ps g false) (c.in-None.ensures.view ∙ ap (moved_to (view h.tracing.heap) (number g c.args.s)) (target_is h k g c.args.s c.requires.phase c.requires.slot ∙ put)) in
     let d = done h k g ph qs c.requires.phase is v in
     let f = h.fuel in
-    let p = ap (λ (x : Phase). pressed x qs h.top) is ∙ done_pressed qs k h.top in
+    let p = ap (λ (x : Phase). pressed x qs (length h.tracing.work.items)) is ∙ done_pressed qs k (length h.tracing.work.items) in
     record {
-      room = h.room;
       spare = omega arith;
       fuel = omega arith;
-      sited = ap (λ (x : Phase). placed x qs) is ∙ done_placed qs k;
+      sited = let P : Phase → Type 0 = λ x. Placed x qs in subst P (sym is) (done_placed qs k);
     }
 
 pub returns-in-None : goal.returns-in-None
@@ -146,15 +139,14 @@ returns-in-None c =
     let k : ℕ = c.args.class in
     let g : ℕ = c.args.g in
     let put = stays_put h k g c.args.s c.requires.phase c.requires.slot c.in-None.ensures.target in
-    let v : view c.reopen.new.self ≡ close_page (view h.heap) g false =
-    c.reopen.ensures ∙ ap (λ (ps : List Page). close_page ps g false) (c.in-None.ensures.view ∙ ap (moved_to (view h.heap) (number g c.args.s)) (target_is h k g c.args.s c.requires.phase c.requires.slot ∙ put)) in
+    let v : view c.reopen.new.self ≡ close_page (view h.tracing.heap) g false =
+    c.reopen.ensures ∙ ap (λ (ps : List Page). close_page ps g false) (c.in-None.ensures.view ∙ ap (moved_to (view h.tracing.heap) (number g c.args.s)) (target_is h k g c.args.s c.requires.phase c.requires.slot ∙ put)) in
     record {
       heap =
           ap₂ (λ (x : Phase) (ps : List Page). with_phase (with_pages (heap_of h) ps) (stage x h.targets)) c.after_class-self.ensures v
-          ∙ ap (with_phase (with_pages (heap_of h) (close_page (view h.heap) g false))) (done_stage k h.targets)
+          ∙ ap (with_phase (with_pages (heap_of h) (close_page (view h.tracing.heap) g false))) (done_stage k h.targets)
           ∙ ap (move_to (heap_of h) k h.targets g c.args.s) (sym put);
-      units = refl;
-      left = done h k g c.after_class-self.result (view c.reopen.new.self) c.requires.phase c.after_class-self.ensures v;
+      advance = record { units = refl; left = done h k g c.after_class-self.result (view c.reopen.new.self) c.requires.phase c.after_class-self.ensures v };
     }
 
 pub invariant_of-self-in-Some : goal.invariant_of-self-in-Some
@@ -163,9 +155,8 @@ invariant_of-self-in-Some c =
     let qs : List Page = view c.move_block.new.self in
     let l = falls h c.args.class c.args.g c.args.s c.requires.phase c.requires.slot c.in-Some.t c.in-Some.ensures.target qs c.in-Some.ensures.view in
     let f = h.fuel in
-    let p = ap (λ (y : Phase). pressed y qs h.top) c.requires.phase in
+    let p = ap (λ (y : Phase). pressed y qs (length h.tracing.work.items)) c.requires.phase in
     record {
-      room = h.room;
       spare = omega arith;
       fuel = omega arith;
       sited = stands h c.args.class c.args.g c.args.s c.requires.phase c.requires.slot c.in-Some.t c.in-Some.ensures.target qs c.in-Some.ensures.view;
@@ -186,6 +177,5 @@ returns-in-Some c =
       heap =
           ap₂ (λ (x : Stage) (y : List Page). with_phase (with_pages (heap_of h) y) x) S V
           ∙ ap (move_to (heap_of h) k h.targets g s) (sym (found h k g s c.requires.phase c.requires.slot t c.in-Some.ensures.target));
-      units = refl;
-      left = falls h k g s c.requires.phase c.requires.slot t c.in-Some.ensures.target qs c.in-Some.ensures.view;
+      advance = record { units = refl; left = falls h k g s c.requires.phase c.requires.slot t c.in-Some.ensures.target qs c.in-Some.ensures.view };
     }

@@ -1,14 +1,14 @@
-use Rattle.std.proofs.Common.{◌≡◌, ℕ, ◌+◌, ◌-◌, ◌<◌, ◌≤◌, Bool, leb, List, length, Some, None, Option, sym, refl, ap, ◌∙◌, subst, arith, length-set}
+use Rattle.std.proofs.Common.{◌≡◌, ℕ, ◌+◌, ◌-◌, ◌<◌, ◌≤◌, Bool, leb, List, Some, None, Option, sym, ap, ◌∙◌, subst, arith, length-set}
 use Rattle.model.specs.Classes.{fitting}
-use Rattle.model.specs.Pages.{Page, number, put_block}
+use Rattle.model.specs.Pages.{Page, put_block}
 use Rattle.model.specs.Making.{ready_pages, free_number}
 use Rattle.model.specs.Calls.{if_some}
 use Rattle.pages.specs.declared.entry.Entry.{Entry}
-use Rattle.pages.specs.Entries.{pages_of, Taken}
-use Rattle.heap.specs.Blocks.{Fits}
+use Rattle.pages.specs.Entries.{Taken}
+use Rattle.pages.proofs.Sizes.{smallest}
 use Rattle.heap.specs.View.{view, new_block, new_page}
 use Rattle.heap.proofs.Views.{full}
-use Rattle.heap.proofs.Making.{new_over, new_some, new_none, made_room, made_wide, made_fits, made_at, made_view}
+use Rattle.heap.proofs.Making.{new_over, new_some, made_wide, made_fits, made_at, made_view}
 use Rattle.heap.proofs.heap.Heap.make.Goals as goal
 use Rattle.heap.proofs.heap.Heap.make.Goals.{then-r-gt30-via-then-r-gt30, then-r-gt30-via-else-r-gt30+then-d-r}
 
@@ -38,82 +38,44 @@ taken es fs g z size f m e tk = let T : ℕ → Type 0 = λ x. Taken es fs g z x
 few_of : (r d : ℕ) → r ≤ 30 → d ≤ 30 - r → r + d ≤ 30
 few_of r d a b = omega arith
 
-pub clear-requires : goal.clear-requires
-clear-requires c =
-    let h = c.args.self.now in
-    let few = few_of c.args.r c.args.d c.if-r-gt30.false c.if-d-r.false in
-    let t = taken h.pages.entries c.allocate.new.self.entries c.in-Some.page c.in-Some.slot c.fitting.result (fitting (2 + c.args.r + c.args.d)) (leb c.args.mark_from c.in-Some.page)
-    c.fitting.ensures.size c.in-Some.ensures.block.0 in (
-      two c.args.r c.args.d,
-      (
-        made_room h.pages.entries c.allocate.new.self.entries h.words c.in-Some.page c.in-Some.slot c.fitting.result c.args.r c.args.d (leb c.args.mark_from c.in-Some.page) t (full h) h.wide few c.fitting.ensures.smallest,
-        h.wide c.in-Some.page t.low,
-      ),
-    )
-  where
-    two : (r d : ℕ) → 2 ≤ 2 + r + d
-    two r d = omega arith
-
-pub invariant_of-self : goal.invariant_of-self
-invariant_of-self c =
-    let h = c.args.self.now in
-    let same = c.in-None.ensures.block.0 in
-    let F : List Entry → Type 0 = λ es. Fits es h.words in
-    record {
-      count = ap length same ∙ h.count;
-      tall = h.tall;
-      wide = h.wide;
-      fits = subst F (sym same) h.fits;
-    }
-
-pub returns-in-None : goal.returns-in-None
-returns-in-None c =
-    let h = c.args.self.now in
-    let a = c.if-d-r.false in
-    let b = c.if-r-gt30.false in
-    let e = new_none (view h) c.args.r c.args.d (omega arith) (c.in-None.ensures.block.1 h.words (full h)) in
-    record {
-      number = no_number (view h) c.args.r c.args.d c.args.mark_from e;
-      view = ap (λ (es : List Entry). pages_of es h.words) c.in-None.ensures.block.0 ∙ no_pages (view h) c.args.r c.args.d c.args.mark_from e;
-    }
-
-pub invariant_of-self-in-Some : goal.invariant_of-self-in-Some
-invariant_of-self-in-Some c =
+pub invariant_of-self-2 : goal.invariant_of-self-2
+invariant_of-self-2 c =
     let h = c.args.self.now in
     let es = h.pages.entries in
     let fs = c.allocate.new.self.entries in
-    let g : ℕ = c.in-Some.page in
-    let z : ℕ = c.in-Some.slot in
+    let g : ℕ = c.in_ok-page.page in
+    let z : ℕ = c.in_ok-page.slot in
     let m : Bool = leb c.args.mark_from g in
     let few = few_of c.args.r c.args.d c.if-r-gt30.false c.if-d-r.false in
-    let t = taken es fs g z c.fitting.result (fitting (2 + c.args.r + c.args.d)) m c.fitting.ensures.size c.in-Some.ensures.block.0 in record {
+    let is : c.size.result ≡ fitting (2 + c.args.r + c.args.d) = c.size.ensures ∙ c.in_ok-page.ensures.block.0.size_is in
+    let t = taken es fs g z c.size.result (fitting (2 + c.args.r + c.args.d)) m is c.in_ok-page.ensures.block.0 in record {
       count = t.count ∙ h.count;
       tall = length-set h.words g c.clear.new.words ∙ h.tall;
-      wide = made_wide es fs h.words g z c.fitting.result c.args.r c.args.d m t (full h) h.wide few c.fitting.ensures.smallest (number g z) c.clear.new.words c.clear.ensures;
-      fits = made_fits es fs h.words g z c.fitting.result c.args.r c.args.d m t (full h) h.wide few c.fitting.ensures.smallest (number g z) c.clear.new.words c.clear.ensures h.fits;
+      wide = made_wide es fs h.words g z c.size.result c.args.r c.args.d m t (full h) h.wide few (smallest (2 + c.args.r + c.args.d) c.size.result is) c.number_of-n.result c.clear.new.words c.clear.ensures;
+      fits = made_fits es fs h.words g z c.size.result c.args.r c.args.d m t (full h) h.wide few (smallest (2 + c.args.r + c.args.d) c.size.result is) c.number_of-n.result c.clear.new.words c.clear.ensures h.fits;
     }
 
-pub returns-in-Some : goal.returns-in-Some
-returns-in-Some c =
+pub returns : goal.returns
+returns c =
     let h = c.args.self.now in
     let es = h.pages.entries in
     let fs = c.allocate.new.self.entries in
-    let g : ℕ = c.in-Some.page in
-    let z : ℕ = c.in-Some.slot in
+    let g : ℕ = c.in_ok-page.page in
+    let z : ℕ = c.in_ok-page.slot in
     let r : ℕ = c.args.r in
     let d : ℕ = c.args.d in
     let m : Bool = leb c.args.mark_from g in
     let few = few_of r d c.if-r-gt30.false c.if-d-r.false in
-    let is = c.fitting.ensures.size in
-    let t = taken es fs g z c.fitting.result (fitting (2 + r + d)) m is c.in-Some.ensures.block.0 in
-    let e = new_some (view h) r d g few (c.in-Some.ensures.block.1 h.words (full h)) in
+    let is : c.size.result ≡ fitting (2 + r + d) = c.size.ensures ∙ c.in_ok-page.ensures.block.0.size_is in
+    let t = taken es fs g z c.size.result (fitting (2 + r + d)) m is c.in_ok-page.ensures.block.0 in
+    let e = new_some (view h) r d g few (c.in_ok-page.ensures.block.1 h.words h.tall) in
     record {
       number =
-          ap Some (made_at es fs h.words g z c.fitting.result r d m t (full h) h.wide few c.fitting.ensures.smallest (number g z) c.clear.new.words c.clear.ensures refl)
+          ap Some (made_at es fs h.words g z c.size.result r d m t (full h) h.wide few (smallest (2 + c.args.r + c.args.d) c.size.result is) c.number_of-n.result c.clear.new.words c.clear.ensures c.number_of-n.ensures)
           ∙ ap (λ (x : ℕ). Some (free_number (ready_pages (view h) g x) g)) is
           ∙ sym (ap (λ (o : Option ℕ). if_some o (λ g. Some (free_number (ready_pages (view h) g (fitting (2 + r + d))) g)) None) e);
       view =
-          made_view es fs h.words g z c.fitting.result r d m t (full h) h.wide few c.fitting.ensures.smallest (number g z) c.clear.new.words c.clear.ensures refl
+          made_view es fs h.words g z c.size.result r d m t (full h) h.wide few (smallest (2 + c.args.r + c.args.d) c.size.result is) c.number_of-n.result c.clear.new.words c.clear.ensures c.number_of-n.ensures
           ∙ ap (λ (x : ℕ). put_block (ready_pages (view h) g x) (free_number (ready_pages (view h) g x) g) (new_block (free_number (ready_pages (view h) g x) g) m r d)) is
           ∙ sym (ap (λ (o : Option ℕ). if_some o (λ g. put_block (ready_pages (view h) g (fitting (2 + r + d))) (free_number (ready_pages (view h) g (fitting (2 + r + d))) g) (new_block (free_number (ready_pages (view h) g (fitting (2 + r + d))) g) (leb c.args.mark_from g) r d)) (view h)) e);
     }

@@ -1,59 +1,51 @@
 use Rattle.std.proofs.Common.{◌≡◌, ℕ, Bool, true, false, cond, None, sym, ap, ◌∙◌, subst, ap₂}
 use Rattle.model.specs.Pages.{page_of, page_at, block_at}
 use Rattle.model.specs.Units.{target_page}
-use Rattle.pages.specs.Entries.{no_entry, entry_at}
-use Rattle.pages.proofs.Pages.{closed_entry}
+use Rattle.pages.specs.Entries.{entry_at}
 use Rattle.heap.specs.declared.heap.Heap.{Heap}
 use Rattle.heap.specs.Blocks.{Located}
 use Rattle.heap.specs.View.{view, target_of, target_number, moved_to}
-use Rattle.heap.proofs.Views.{full}
+use Rattle.heap.proofs.Views.{closed_is}
 use Rattle.heap.proofs.Found.{size_is, numbered}
 use Rattle.heap.proofs.heap.Heap.move_block.Goals as goal
 
--- the target of a number that names no block
-pub returns-in-None : goal.returns-in-None
-returns-in-None c =
-    let h = c.args.self.now in
-    let e = ap (target_of (view h) c.args.n) c.in-None.ensures in
-    record { target = sym (ap target_number e); view = sym (ap (moved_to (view h) c.args.n) e) }
-
 module _ (h : Heap) (n g s : ℕ) (at : Located h.pages.entries h.words n g s) where
-  closed_is : (page_at (view h) (page_of n)).closed ≡ (entry_at h.pages.entries g).closed
-  closed_is = ap (λ (x : ℕ). (page_at (view h) x).closed) (sym at.page) ∙ closed_entry h.pages.entries h.words (full h) g no_entry at.low
+  closed_here : (page_at (view h) (page_of n)).closed ≡ (entry_at h.pages.entries g).closed
+  closed_here = ap (λ (x : ℕ). (page_at (view h) x).closed) (sym at.page) ∙ closed_is h g at.low
 
   target_is : (b : Bool) → (entry_at h.pages.entries g).closed ≡ b
       → target_of (view h) n (block_at (view h) n) ≡ cond b (target_page (view h) (entry_at h.pages.entries g).size) None
   target_is b e =
       ap (target_of (view h) n) at.block
-      ∙ ap₂ (λ (x : Bool) (y : ℕ). cond x (target_page (view h) y) None) (closed_is ∙ e)
+      ∙ ap₂ (λ (x : Bool) (y : ℕ). cond x (target_page (view h) y) None) (closed_here ∙ e)
       (ap (λ (x : ℕ). (page_at (view h) x).size) (sym at.page) ∙ size_is h.pages.entries h.words g h.count h.tall at.low)
 
 pub returns-then-not-is_closed : goal.returns-then-not-is_closed
 returns-then-not-is_closed c =
     let h = c.args.self.now in
-    let e = target_is h c.args.n c.in-Some.g c.in-Some.s c.in-Some.ensures false (sym (c.is_closed.ensures h.count) ∙ c.if-not-is_closed.true) in
+    let e = target_is h c.args.n c.in_ok-g.g c.in_ok-g.s c.in_ok-g.ensures false (sym c.is_closed.ensures ∙ c.if-not-is_closed.true) in
     record { target = sym (ap target_number e); view = sym (ap (moved_to (view h) c.args.n) e) }
 
 pub move_found-requires : goal.move_found-requires
 move_found-requires c =
     let h = c.args.self.now in
-    let at = c.in-Some.ensures in
-    let L : ℕ → Type 0 = λ x. Located h.pages.entries h.words x c.in-Some.g c.in-Some.s in
+    let at = c.in_ok-g.ensures in
+    let L : ℕ → Type 0 = λ x. Located h.pages.entries h.words x c.in_ok-g.g c.in_ok-g.s in
     record {
-      found = subst L (numbered h.pages.entries h.words c.args.n c.in-Some.g c.in-Some.s at) at;
-      closed = sym (c.is_closed.ensures h.count) ∙ c.if-not-is_closed.false;
+      found = subst L (numbered h.pages.entries h.words c.args.n c.in_ok-g.g c.in_ok-g.s at) at;
+      closed = sym c.is_closed.ensures ∙ c.if-not-is_closed.false;
     }
 
-pub returns-else-not-is_closed : goal.returns-else-not-is_closed
-returns-else-not-is_closed c =
+pub returns : goal.returns
+returns c =
     let h = c.args.self.now in
-    let at = c.in-Some.ensures in
-    let n = numbered h.pages.entries h.words c.args.n c.in-Some.g c.in-Some.s at in
-    let e = target_is h c.args.n c.in-Some.g c.in-Some.s at true (sym (c.is_closed.ensures h.count) ∙ c.if-not-is_closed.false) in
+    let at = c.in_ok-g.ensures in
+    let n = numbered h.pages.entries h.words c.args.n c.in_ok-g.g c.in_ok-g.s at in
+    let e = target_is h c.args.n c.in_ok-g.g c.in_ok-g.s at true (sym c.is_closed.ensures ∙ c.if-not-is_closed.false) in
     record {
       target = c.move_found.ensures.target ∙ sym (ap target_number e);
       view =
           c.move_found.ensures.view
-          ∙ ap (λ (x : ℕ). moved_to (view h) x (target_page (view h) (entry_at h.pages.entries c.in-Some.g).size)) (sym n)
+          ∙ ap (λ (x : ℕ). moved_to (view h) x (target_page (view h) (entry_at h.pages.entries c.in_ok-g.g).size)) (sym n)
           ∙ sym (ap (moved_to (view h) c.args.n) e);
     }

@@ -1,14 +1,18 @@
-use Rattle.std.proofs.Common.{ℕ, ◌/◌, ◌%◌, sym, ap, ◌∙◌, ap₂}
-use Rattle.heap.proofs.Found.{its_count, its_words}
+use Rattle.std.proofs.Common.{◌≡◌, ℕ, ◌/◌, ◌%◌, get_or, sym, ◌∙◌, ap₂, rules}
+use Rattle.heap.specs.Blocks.{block_words}
+use Rattle.heap.specs.View.{shape_of}
+use Rattle.heap.proofs.Found.{found_value, its_count, its_words}
 use Rattle.heap.proofs.heap.Heap.shape.Goals as goal
 
 pair : ℕ → ℕ → ℕ × ℕ
 pair a b = (a, b)
 
-pub returns-in-Some : goal.returns-in-Some
+pub returns : goal.returns
 unfolding pair
-returns-in-Some c =
+returns c =
     let h = c.args.self.now in
-    ap₂ pair
-    (ap (λ (x : ℕ). x % 32) c.word-w.ensures ∙ sym (its_count h.pages.entries h.words c.args.n c.in-Some.g c.in-Some.s h.count h.tall h.wide c.in-Some.ensures))
-    (ap (λ (x : ℕ). x / 32) c.word-w.ensures ∙ sym (its_words h.pages.entries h.words c.args.n c.in-Some.g c.in-Some.s h.count h.tall h.wide c.in-Some.ensures))
+    found_value shape_of h.pages.entries h.words c.args.n c.find.result c.map_or.result c.find.ensures c.map_or.ensures
+    (λ x at p.
+    let is : c.map_or.result ≡ (get_or (block_words h.pages.entries h.words x.0 x.1) 1 0 % 32, get_or (block_words h.pages.entries h.words x.0 x.1) 1 0 / 32) = search rules in
+    is
+    ∙ sym (ap₂ pair (its_count h.pages.entries h.words c.args.n x.0 x.1 h.count h.tall h.wide at) (its_words h.pages.entries h.words c.args.n x.0 x.1 h.count h.tall h.wide at)))

@@ -1,7 +1,6 @@
 -- What holds at each turn of the loop in `feed`.
-use Rattle.lines.specs.Holding.{holds}
 use Rattle.lines.proofs.Feeds.{Sofar}
 use Rattle.lines.proofs.buffer.LineBuffer.feed.Given as goal
 
 abbrev pub invariant-loop-b : goal.invariant-loop-b
-invariant-loop-b g l = Sofar g.H.LineHandler.handled l.initial.handler (holds l.initial.self) l.chunk l.b-index l.handler (holds l.self)
+invariant-loop-b g l = Sofar g.H.LineHandler.handled l.initial.handler l.fn.self l.chunk l.b-index l.handler l.self-inside.bytes.items

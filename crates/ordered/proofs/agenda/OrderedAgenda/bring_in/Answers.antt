@@ -1,52 +1,33 @@
-use Rattle.std.proofs.Common.{◌≡◌, ℕ, ◌<◌, false, List, set, Some, Option, ◌∙◌, arith}
-use Rattle.std.proofs.lemmas.List.{length-set}
-use Rattle.holders.specs.declared.key.Key.{Key}
-use Rattle.holders.specs.Keys.{keyed}
-use Rattle.ordered.specs.declared.agenda.OrderedAgenda.{OrderedAgenda}
-use Rattle.ordered.proofs.Agendas.{Added, room, added}
-use Rattle.ordered.proofs.Sounds.{sound}
+use Rattle.std.proofs.Common.{◌≡◌, ℕ, List, length, sym, ap, ◌∙◌, subst, lit<}
+use Rattle.arrayvec.proofs.ArrayVecLemmas.{items-with_items}
+use Rattle.holders.specs.Keys.{sooner}
+use Rattle.ordered.specs.Heaps.{at, Above, Entered, InOrder, InOrderBut}
+use Rattle.ordered.proofs.Agendas.{room, added}
 use Rattle.ordered.proofs.agenda.OrderedAgenda.bring_in.Goals as goal
 
-fewer : (a : OrderedAgenda) (p : ℕ) → p < 64 → keyed a.table.keys p ≡ false → a.count < 64
-fewer a = room a.table.keys a.entries a.count (sound a)
+pub push-requires : goal.push-requires
+push-requires c = (lit< tt, room c.args.self.now c.args.p c.requires.within c.requires.unkeyed)
 
-with_entry : (a : OrderedAgenda) (ks' : List (Option Key)) (p : ℕ) (k : Key) → p < 64 → keyed a.table.keys p ≡ false
-    → ks' ≡ set a.table.keys p (Some k) → Added ks' (set a.entries a.count p) a.count
-with_entry a = added a.table.keys a.entries a.count (sound a)
+pub rise-requires-clause-entered : goal.rise-requires-clause-entered
+rise-requires-clause-entered c =
+    let new = added c.args.self.now c.key_place.new.self.keys c.args.p c.args.key c.requires.within c.requires.unkeyed c.key_place.ensures.changed in
+    subst (Entered c.key_place.new.self.keys) (sym (c.deref_mut.ensures.value ∙ c.push.ensures.items)) new.entered
 
-pub offset_bounds-self-last : goal.offset_bounds-self-last
-offset_bounds-self-last c = omega (arith, fewer c.args.self.now c.args.p c.requires.within c.requires.unkeyed)
-
-pub bounds-self-last : goal.bounds-self-last
-bounds-self-last c = fewer c.args.self.now c.args.p c.requires.within c.requires.unkeyed
-
-pub overflow_add-self : goal.overflow_add-self
-overflow_add-self c = omega (arith, fewer c.args.self.now c.args.p c.requires.within c.requires.unkeyed)
-
-pub overflow_add-last : goal.overflow_add-last
-overflow_add-last c = omega (arith, fewer c.args.self.now c.args.p c.requires.within c.requires.unkeyed)
-
-pub rise-requires : goal.rise-requires
-rise-requires c =
-    let a = c.args.self.now in
-    let f : a.count < 64 = fewer a c.args.p c.requires.within c.requires.unkeyed in
-    let new = with_entry a c.key_place.new.self.keys c.args.p c.args.key c.requires.within c.requires.unkeyed c.key_place.ensures.changed in
-    record {
-      room = simp length-set (omega (arith, f, a.wide));
-      entry = omega arith;
-      members = new.members;
-      near = new.near;
-    }
+pub rise-requires-clause-near : goal.rise-requires-clause-near
+rise-requires-clause-near c =
+    let ks = c.key_place.new.self.keys in
+    let new = added c.args.self.now ks c.args.p c.args.key c.requires.within c.requires.unkeyed c.key_place.ensures.changed in
+    let P : List ℕ → ℕ → Type 0 = λ row i. InOrderBut ks row i × Above (sooner ks) (at row) (length row) i in
+    subst (P c.deref_mut.result.now) (sym c.len-last.ensures.value)
+    (subst (λ row. P row (length c.args.self.now.entries.items)) (sym (c.deref_mut.ensures.value ∙ c.push.ensures.items)) new.near)
 
 pub invariant_of-self : goal.invariant_of-self
 invariant_of-self c =
-    let a = c.args.self.now in
-    let new = with_entry a c.key_place.new.self.keys c.args.p c.args.key c.requires.within c.requires.unkeyed c.key_place.ensures.changed in
-    let m = c.rise.ensures.members in record {
-      wide = c.rise.auto.entries ∙ length-set a.entries a.count _ ∙ a.wide;
-      tallied = new.tallied;
-      inside = m.0;
-      once = m.1;
-      whole = m.2;
-      heaped = c.rise.ensures.heaped;
+    let ks = c.key_place.new.self.keys in
+    let new = added c.args.self.now ks c.args.p c.args.key c.requires.within c.requires.unkeyed c.key_place.ensures.changed in
+    let long : length c.rise.new.entries ≡ length c.push.new.self.items = c.rise.auto.entries ∙ ap length c.deref_mut.ensures.value in
+    let back = items-with_items c.push.new.self c.rise.new.entries long in record {
+      tallied = ap length back ∙ long ∙ ap length c.push.ensures.items ∙ new.tallied;
+      entered = subst (Entered ks) (sym back) c.rise.ensures.entered;
+      in_order = subst (InOrder ks) (sym back) c.rise.ensures.in_order;
     }

@@ -1,4 +1,4 @@
-use Rattle.std.proofs.Common.{◌≡◌, ℕ, ◌/◌, ◌^◌, ◌≤◌, Bool, true, false, ◌≢◌, sym, refl, ap, ◌∙◌, inl, inr, arith, pow_mono}
+use Rattle.std.proofs.Common.{◌≡◌, ℕ, ◌/◌, ◌^◌, ◌≤◌, Bool, true, false, ◌≢◌, sym, refl, ap, ◌∙◌, subst, inl, inr, arith, pow_mono}
 use native.Mathlib.Nat.{div-le_of_le-mul}
 use mir.Val.{bool_byte}
 use Rattle.std.proofs.lemmas.Nat.{le-div}
@@ -35,7 +35,7 @@ invariant_of-result c =
     record {
       below = omega arith;
       few = few;
-      within = first c.args.marked;
+      within = (let W : ℕ → Type 0 = λ x. Within x 1 in subst W (sym c.from.ensures) (first c.args.marked));
       blank = (λ z. absurd (omega arith));
       inhabited = (λ h. omega arith);
     }
@@ -47,8 +47,8 @@ returns c =
     let some = some_blocks size c.requires.0 c.requires.1 in
     record {
       view = λ ws.
-          take_page size false 0 0 1 (bool_byte m) ws 0 m some (bit_same 0) (at_first m)
-          (λ k h ne. bit_other 0 k ne ∙ sym (has_none k)) (λ k h ne. past_first m k ne)
+          take_page size false 0 0 1 c.from.result ws 0 m some (bit_same 0) (ap (λ (x : ℕ). has x 0) c.from.ensures ∙ at_first m)
+          (λ k h ne. bit_other 0 k ne ∙ sym (has_none k)) (λ k h ne. ap (λ (x : ℕ). has x k) c.from.ensures ∙ past_first m k ne)
           ∙ ap (λ (p : Page). filled p 0 (block_of m (region size ws 0))) (cut_page size 0 ws);
       one = λ k on. elim (cases_eq k 0) [ inl e ↦ e | inr ne ↦ absurd (both_ways (has 1 k) (bit_other 0 k ne) on) ];
       size = refl;

@@ -1,4 +1,4 @@
-use Rattle.std.proofs.Common.{◌≡◌, ℕ, ◌/◌, false, [], ap, ◌∙◌, arith}
+use Rattle.std.proofs.Common.{◌≡◌, ℕ, ◌/◌, [], ap, ◌∙◌, arith}
 use lib.Count.{ones-le}
 use Rattle.pages.proofs.Views.{slots_used, slots_free}
 use Rattle.pages.proofs.entry.Entry.free.Goals as goal
@@ -6,7 +6,7 @@ use Rattle.pages.proofs.entry.Entry.free.Goals as goal
 pub overflow_sub-result : goal.overflow_sub-result
 overflow_sub-result c =
     let e = c.args.self.now in
-    let u = c.used.ensures false 0 [] ∙ slots_used e.size false e.occupied 0 [] e.below in
+    let u = c.used.ensures [] ∙ slots_used e.size e.closed e.occupied e.marked [] e.below in
     let l = ones-le (256 / e.size) e.occupied e.below in
     omega arith
 
@@ -14,8 +14,8 @@ pub returns-then-self-eq0 : goal.returns-then-self-eq0
 returns-then-self-eq0 c =
     let e = c.args.self.now in
     record {
-      free = λ b m ws.
-          let f = slots_free e.size b e.occupied m ws e.below in
+      free = λ ws.
+          let f = slots_free e.size e.closed e.occupied e.marked ws e.below in
           let z : 256 / e.size ≡ 0 = ap (λ (x : ℕ). 256 / x) c.if-self-eq0.true in
           omega arith;
       few = omega arith;
@@ -26,9 +26,9 @@ returns-else-self-eq0 c =
     let e = c.args.self.now in
     let k = e.few in
     record {
-      free = λ b m ws.
-          let f = slots_free e.size b e.occupied m ws e.below in
-          let u = c.used.ensures b m ws ∙ slots_used e.size b e.occupied m ws e.below in
+      free = λ ws.
+          let f = slots_free e.size e.closed e.occupied e.marked ws e.below in
+          let u = c.used.ensures ws ∙ slots_used e.size e.closed e.occupied e.marked ws e.below in
           omega arith;
       few = omega arith;
     }

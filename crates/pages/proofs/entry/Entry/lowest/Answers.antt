@@ -3,5 +3,4 @@ use Rattle.pages.proofs.Views.{slots_lowest}
 use Rattle.pages.proofs.entry.Entry.lowest.Goals as goal
 
 pub returns : goal.returns
-returns c b m ws =
-    let e = c.args.self.now in sym (slots_lowest e.size b e.occupied m ws e.below e.few)
+returns c ws = let e = c.args.self.now in sym (slots_lowest e.size e.closed e.occupied e.marked ws e.below e.few)

@@ -3,4 +3,4 @@ use Rattle.pages.proofs.Views.{slots_used}
 use Rattle.pages.proofs.entry.Entry.used.Goals as goal
 
 pub returns : goal.returns
-returns c b m ws = let e = c.args.self.now in sym (slots_used e.size b e.occupied m ws e.below)
+returns c ws = let e = c.args.self.now in sym (slots_used e.size e.closed e.occupied e.marked ws e.below)

@@ -1,44 +1,16 @@
-use Rattle.std.proofs.Common.{◌≡◌, ℕ, ◌≤◌, Bool, true, false, cond, eqb, get_or, ap, arith}
-use Rattle.model.specs.Pages.{page_at, is_uncut}
-use Rattle.pages.specs.Entries.{pages_of}
-use Rattle.pages.proofs.Pages.{pages_long, uncut_entry, pages_step, pages_end}
+use Rattle.std.proofs.Common.{◌≡◌, Bool, eqb, length, ◌∙◌, rules, tests, arith}
+use Rattle.std.proofs.lemmas.Iterator.{YieldsList-from_slice}
+use Rattle.std.proofs.lemmas.Iterator.Consumers.{count_from_yields_List, YieldsList-from_filter}
+use Rattle.model.specs.Pages.{is_uncut}
+use Rattle.pages.specs.declared.entry.Entry.{Entry}
+use Rattle.pages.proofs.Pages.{count_of_pages, uncut_entry}
 use Rattle.pages.proofs.table.Table.uncut_pages.Goals as goal
 
-one_most : (b : Bool) → cond b 1 0 ≤ 1
-one_most true = omega arith
-one_most false = omega arith
-
-pub overflow_add-n : goal.overflow_add-n
-overflow_add-n c =
-    let i = c.loop-page.invariant.1 in
-    let l = c.loop-page-test.true in
-    let e = c.one_if-n.ensures in
-    let m = one_most (eqb (get_or c.args.self.now.entries c.loop-page._page c.entry-item.result).size 0) in
-    omega arith
-
-pub loop-page-preserved : goal.loop-page-preserved
-loop-page-preserved c =
-    let es = c.args.self.now.entries in
-    let g : ℕ = c.loop-page._page in
-    let l = c.loop-page-test.true in
-    let j = c.loop-page.invariant.1 in
-    let o = c.one_if-n.ensures in
-    let m = one_most (eqb (get_or c.args.self.now.entries c.loop-page._page c.entry-item.result).size 0) in (
-      λ wss full.
-          let k = pages_long es wss full in
-          let s = pages_step is_uncut (pages_of es wss) g (omega arith) in
-          let e : ◌≡◌ {A = ℕ} (cond (is_uncut (page_at (pages_of es wss) g)) 1 0) (cond (eqb (get_or es g c.entry-item.result).size 0) 1 0) =
-          ap (λ (b : Bool). cond b 1 0) (uncut_entry es wss full g c.entry-item.result l) in
-          let i = c.loop-page.invariant.0 wss full in
-          omega arith,
-      omega arith,
-    )
-
 pub returns : goal.returns
-returns c wss full =
+returns c wss long =
     let es = c.args.self.now.entries in
-    let k = pages_long es wss full in
-    let l = c.loop-page-test.false in
-    let e = pages_end is_uncut (pages_of es wss) c.loop-page._page (omega arith) in
-    let i = c.loop-page.invariant.0 wss full in
-    omega arith
+    let t : Entry → Bool = λ e. eqb e.size 0 in
+    let n : length es ≡ 64 = omega arith in
+    count_from_yields_List c.filter.result c.count.result c.count.ensures.ran
+    (YieldsList-from_filter _ t (YieldsList-from_slice es cc) c.filter.ensures.closure (λ x r q k. search (rules, tests)))
+    ∙ count_of_pages is_uncut t uncut_entry es wss (omega arith)

@@ -1,9 +1,5 @@
-use Rattle.theory.proofs.Lawful.{lawful}
+use Rattle.store.proofs.Performed.{performed}
 use Rattle.store.proofs.store.StoreRecords.begin.Goals as goal
 
 pub returns : goal.returns
-returns g c = record {
-  answer = c.begin.ensures.answer;
-  after = c.begin.ensures.after;
-  lawful = lawful _ _ _ _ _ g.met.H.Holder.some g.met.H.Holder.few g.met.A.Holder.some g.met.A.Holder.few c.begin.ensures.after;
-}
+returns g c = performed _ _ _ _ _ _ g.met.H.Holder.some g.met.H.Holder.few g.met.A.Holder.some g.met.A.Holder.few c.begin.ensures

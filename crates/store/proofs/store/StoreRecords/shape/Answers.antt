@@ -1,9 +1,5 @@
-use Rattle.theory.proofs.Lawful.{lawful}
+use Rattle.store.proofs.Performed.{performed}
 use Rattle.store.proofs.store.StoreRecords.shape.Goals as goal
 
 pub returns : goal.returns
-returns g c = record {
-  answer = c.shape.ensures.answer;
-  after = c.shape.ensures.after;
-  lawful = lawful _ _ _ _ _ g.met.H.Holder.some g.met.H.Holder.few g.met.A.Holder.some g.met.A.Holder.few c.shape.ensures.after;
-}
+returns g c = performed _ _ _ _ _ _ g.met.H.Holder.some g.met.H.Holder.few g.met.A.Holder.some g.met.A.Holder.few c.shape.ensures

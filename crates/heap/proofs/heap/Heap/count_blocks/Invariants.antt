@@ -1,8 +1,0 @@
-use Rattle.std.proofs.Common.{◌≡◌, ◌+◌, ◌*◌, ◌≤◌, drop}
-use Rattle.model.specs.Pages.{count_of_blocks}
-use Rattle.heap.specs.View.{view}
-use Rattle.heap.proofs.heap.Heap.count_blocks.Given as goal
-
-abbrev pub invariant-loop-g : goal.invariant-loop-g
-invariant-loop-g l =
-    (l.n + count_of_blocks l.current l.g (drop l.g (view l.self)) ≡ count_of_blocks l.current 0 (view l.self)) × (l.n ≤ 64 * l.g)

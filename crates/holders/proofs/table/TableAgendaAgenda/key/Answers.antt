@@ -1,6 +1,0 @@
-use Rattle.std.proofs.Common.{None, sym, arith}
-use Rattle.std.proofs.lemmas.List.{get_or_past}
-use Rattle.holders.proofs.table.TableAgendaAgenda.key.Goals as goal
-
-pub returns-then-i-ge64 : goal.returns-then-i-ge64
-returns-then-i-ge64 c = sym (get_or_past c.args.self.now.keys c.args.i None (omega arith))

@@ -1,6 +1,0 @@
-use Rattle.std.proofs.Common.{sym, refl, arith}
-use Rattle.std.proofs.lemmas.List.{set_past}
-use Rattle.holders.proofs.table.TableAgendaHolder.put.Goals as goal
-
-pub returns-else-place-lt64 : goal.returns-else-place-lt64
-returns-else-place-lt64 c = record { number = sym (set_past _ _ _ (omega arith)); same = refl }

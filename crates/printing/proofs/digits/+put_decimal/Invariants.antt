@@ -1,5 +1,0 @@
--- The measure of `put_decimal`: its number.
-use Rattle.printing.proofs.digits.+put_decimal.Given as goal
-
-abbrev pub decreases-put_decimal : goal.decreases-put_decimal
-decreases-put_decimal l = l.n
