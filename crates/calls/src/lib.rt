@@ -4,6 +4,8 @@
 ghost use Rattle.std.specs.Prelude.{◌≡◌};
 ghost use Rattle.calls.specs.Numbers.{letter_of, number_of};
 
+pub mod results;
+
 // The fourteen calls. Places, references, words and units are counted from 0; a place is one of the holder's.
 #[derive(Clone, Copy)]
 pub enum Call {
