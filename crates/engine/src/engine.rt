@@ -168,9 +168,12 @@ impl<H: Holder + Drop, A: Agenda + Drop> Performs for Engine<H, A> {
 
     fn count(&self) -> (u32, u32, u32, u32) {
         let collector = &self.parts.collector;
+        let current = collector.current_blocks();
+        // an occupied block that is not current is a husk: so each slot is looked at once
+        let husks = collector.occupied_blocks() - current;
         (
-            collector.current_blocks(),
-            collector.husks(),
+            current,
+            husks,
             collector.uncut_pages(),
             collector.closed_pages(),
         )

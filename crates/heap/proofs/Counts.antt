@@ -70,22 +70,35 @@ counted_most c g i (Some b ∷ xs) = let r = counted_most c g (suc i) xs in let 
     one false true = omega arith
     one false false = omega arith
 
-sum_from : (c : Bool) (h : ℕ → ℕ) (a : ℕ) (ps : List Page) → ((k : ℕ) → k < length ps → h (a + k) ≡ count_slots c (a + k) 0 (page_at ps k).slots)
-    → sum_by h (range_with_len a (length ps)) ≡ count_of_blocks c a ps
-sum_from c h a [] e = refl
-sum_from c h a (p ∷ ps) e =
-    let z : a + 0 ≡ a = omega arith in
-    sum_by-cons h a (range_with_len (a + 1) (length ps))
-    ∙ ap₂ (λ (m n : ℕ). m + n) (sym (ap h z) ∙ e 0 (omega arith) ∙ ap (λ (i : ℕ). count_slots c i 0 p.slots) z)
-    (sum_from c h (a + 1) ps
-    (λ k l. let w : a + 1 + k ≡ a + suc k = omega arith in ap h w ∙ e (suc k) (omega arith) ∙ sym (ap (λ (i : ℕ). count_slots c i 0 (page_at ps k).slots) w))
-    ∙ ap (λ (i : ℕ). count_of_blocks c i ps) (add-one a))
+pub occupied_most : (xs : List (Option Block)) → occupied xs ≤ length xs
+occupied_most [] = omega arith
+occupied_most (None ∷ xs) = let r = occupied_most xs in omega arith
+occupied_most (Some b ∷ xs) = let r = occupied_most xs in omega arith
+
+-- what the pages weigh together, from page `a` on, where page `g` weighs `w g`: a sum over their numbers
+module _ (w : ℕ → Page → ℕ) (all : ℕ → List Page → ℕ) (none : (a : ℕ) → all a [] ≡ 0) (one : (a : ℕ) (p : Page) (ps : List Page) → all a (p ∷ ps) ≡ w a p + all (suc a) ps) where
+  sum_from : (h : ℕ → ℕ) (a : ℕ) (ps : List Page) → ((k : ℕ) → k < length ps → h (a + k) ≡ w (a + k) (page_at ps k)) → sum_by h (range_with_len a (length ps)) ≡ all a ps
+  sum_from h a [] e = sym (none a)
+  sum_from h a (p ∷ ps) e =
+      let z : a + 0 ≡ a = omega arith in
+      sum_by-cons h a (range_with_len (a + 1) (length ps))
+      ∙ ap₂ (λ (m n : ℕ). m + n) (sym (ap h z) ∙ e 0 (omega arith) ∙ ap (λ (i : ℕ). w i p) z)
+      (sum_from h (a + 1) ps
+      (λ k l. let v : a + 1 + k ≡ a + suc k = omega arith in ap h v ∙ e (suc k) (omega arith) ∙ sym (ap (λ (i : ℕ). w i (page_at ps k)) v))
+      ∙ ap (λ (i : ℕ). all i ps) (add-one a))
+      ∙ sym (one a p ps)
+
+  sum_of_pages : (ps : List Page) → length ps ≡ 64 → sum_by (λ g. w g (page_at ps g)) (range_with_len 0 64) ≡ all 0 ps
+  sum_of_pages ps n =
+      ap (λ (k : ℕ). sum_by (λ g. w g (page_at ps g)) (range_with_len 0 k)) (sym n)
+      ∙ sum_from (λ g. w g (page_at ps g)) 0 ps
+      (λ k l. let z : 0 + k ≡ k = omega arith in ap (λ (i : ℕ). w i (page_at ps i)) z ∙ sym (ap (λ (i : ℕ). w i (page_at ps k)) z))
 
 pub sum_of_blocks : (c : Bool) (ps : List Page) → length ps ≡ 64 → sum_by (λ g. count_slots c g 0 (page_at ps g).slots) (range_with_len 0 64) ≡ count_of_blocks c 0 ps
-sum_of_blocks c ps n =
-    ap (λ (k : ℕ). sum_by (λ g. count_slots c g 0 (page_at ps g).slots) (range_with_len 0 k)) (sym n)
-    ∙ sum_from c (λ g. count_slots c g 0 (page_at ps g).slots) 0 ps
-    (λ k l. let z : 0 + k ≡ k = omega arith in ap (λ (i : ℕ). count_slots c i 0 (page_at ps i).slots) z ∙ sym (ap (λ (i : ℕ). count_slots c i 0 (page_at ps k).slots) z))
+sum_of_blocks c = sum_of_pages (λ g p. count_slots c g 0 p.slots) (count_of_blocks c) (λ a. refl) (λ a p ps. refl)
+
+pub sum_of_occupied : (ps : List Page) → length ps ≡ 64 → sum_by (λ g. occupied (page_at ps g).slots) (range_with_len 0 64) ≡ occupied_blocks ps
+sum_of_occupied = sum_of_pages (λ g p. occupied p.slots) (λ a. occupied_blocks) (λ a. refl) (λ a p ps. refl)
 
 -- current blocks and husks are the occupied blocks
 pub all_either_way : (g : ℕ) (ps : List Page) → count_of_blocks true g ps + count_of_blocks false g ps ≡ occupied_blocks ps

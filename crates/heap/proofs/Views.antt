@@ -5,14 +5,14 @@ use Rattle.std.specs.List.{range_with_len}
 use Rattle.std.proofs.lemmas.List.{get_or_past}
 use Rattle.std.proofs.lemmas.List.FromFn.{length-range_with_len}
 use Rattle.std.proofs.lemmas.List.Sums.{sum_by-le}
-use Rattle.model.specs.Pages.{Page, uncut, page_at, count_slots}
+use Rattle.model.specs.Pages.{Page, uncut, page_at, occupied, count_slots}
 use Rattle.pages.specs.declared.entry.Entry.{Entry}
 use Rattle.pages.specs.Entries.{no_entry, entry_at}
 use Rattle.pages.proofs.Pages.{Full, pages_long, page_past, page_of_entry, closed_entry}
 use Rattle.heap.specs.declared.heap.Heap.{Heap}
 use Rattle.heap.specs.View.{view}
 use Rattle.heap.proofs.Found.{slots_length}
-use Rattle.heap.proofs.Counts.{counted_most}
+use Rattle.heap.proofs.Counts.{counted_most, occupied_most}
 
 pub full : (h : Heap) → Full h.pages.entries h.words
 full h = (h.count, h.tall)
@@ -54,11 +54,19 @@ slot_low h g s l = let f = slots_few h g in (
   omega arith,
 )
 
--- the blocks of all pages that count, 64 a page at most
+-- what is 64 a page at most is 4096 in all pages at most
+few_in_pages : (f : ℕ → ℕ) → ((g : ℕ) → f g ≤ 64) → sum_by f (range_with_len 0 64) ≤ 4096
+few_in_pages f few =
+    let l : length (range_with_len 0 64) ≡ 64 = length-range_with_len 0 64 in
+    let m = sum_by-le f 64 (range_with_len 0 64) (λ k d r. few (get_or (range_with_len 0 64) k d)) in
+    omega arith
+
+-- the blocks of all pages that count
 pub few_in_all : (h : Heap) (c : Bool) → sum_by (λ g. count_slots c g 0 (page_at (view h) g).slots) (range_with_len 0 64) ≤ 4096
 few_in_all h c =
-    let l : length (range_with_len 0 64) ≡ 64 = length-range_with_len 0 64 in
-    let f : ℕ → ℕ = λ g. count_slots c g 0 (page_at (view h) g).slots in
-    let m = sum_by-le f 64 (range_with_len 0 64)
-    (λ k d r. let g : ℕ = get_or (range_with_len 0 64) k d in let a = counted_most c g 0 (page_at (view h) g).slots in let b = slots_few h g in omega arith) in
-    omega arith
+    few_in_pages (λ g. count_slots c g 0 (page_at (view h) g).slots) (λ g. let a = counted_most c g 0 (page_at (view h) g).slots in let b = slots_few h g in omega arith)
+
+-- the blocks of all pages that are occupied
+pub few_occupied : (h : Heap) → sum_by (λ g. occupied (page_at (view h) g).slots) (range_with_len 0 64) ≤ 4096
+few_occupied h =
+    few_in_pages (λ g. occupied (page_at (view h) g).slots) (λ g. let a = occupied_most (page_at (view h) g).slots in let b = slots_few h g in omega arith)

@@ -1,26 +1,18 @@
 -- Feeding byte by byte, chunk by chunk and at once.
-use Rattle.std.proofs.Common.{◌≡◌, ℕ, zero, suc, ◌<◌, true, false, cond, eqb, List, [], ◌∷◌, ◌++◌, map, length, take, Ok, Err, Result, sym, refl, ap, ◌∙◌, append_assoc, append-nil, arith, rules}
-use Rattle.std.proofs.lemmas.List.{take_all, take_at, length_push}
+use Rattle.std.proofs.Common.{◌≡◌, ℕ, zero, suc, true, false, cond, eqb, List, [], ◌∷◌, ◌++◌, map, take, sym, refl, ap, ◌∙◌, append_assoc, append-nil}
 use Rattle.std.specs.List.{onto_first}
-use Rattle.arrayvec.specs.ArrayVec.{ArrayVec}
-use Rattle.std.specs.Result.{IsOk, OnErr, OnOk}
 use Rattle.script.specs.Fields.{parted}
 use Rattle.script.proofs.Splitting.{headed}
 use Rattle.lines.specs.Feeding.{fed, kept}
 use Rattle.lines.specs.Lines.{all_lines, but_last, if_some, last_part, lines_of, rest_of, without_empty_end}
 
--- one byte more in the buffer, where it fits and where it does not
-pub kept_more : {E : Type 0} (r : Result (Unit {0}) E) (new old : ArrayVec ℕ) (b : ℕ) → OnOk r (new.items ≡ old.items ++ b ∷ []) → OnErr r (new ≡ old) → OnErr r (length old.items ≡ 81) → (IsOk r → length old.items < 81) → new.items ≡ take 81 (old.items ++ b ∷ [])
-kept_more (Ok v) new old b pushed same full room = pushed ∙ sym (take_all 81 (old.items ++ b ∷ []) (omega (arith, length_push old.items b, room (search rules))))
-kept_more (Err e) new old b pushed same full room = ap (λ v. v.items) same ∙ sym (take_at old.items (b ∷ []) 81 full)
-
-fed_append : (h a b : List ℕ) → fed h (a ++ b) ≡ fed h a ++ fed (kept h a) b
+pub fed_append : (h a b : List ℕ) → fed h (a ++ b) ≡ fed h a ++ fed (kept h a) b
 fed_append h [] b = refl
 fed_append h (c ∷ cs) b =
     elim (eqb c 10) as (λ t. cond t (h ∷ fed [] (cs ++ b)) (fed (take 81 (h ++ c ∷ [])) (cs ++ b)) ≡ cond t (h ∷ fed [] cs) (fed (take 81 (h ++ c ∷ [])) cs) ++ fed (cond t (kept [] cs) (kept (take 81 (h ++ c ∷ [])) cs)) b)
     [ true ↦ ap (λ (l : List (List ℕ)). h ∷ l) (fed_append [] cs b) | false ↦ fed_append (take 81 (h ++ c ∷ [])) cs b ]
 
-kept_append : (h a b : List ℕ) → kept h (a ++ b) ≡ kept (kept h a) b
+pub kept_append : (h a b : List ℕ) → kept h (a ++ b) ≡ kept (kept h a) b
 kept_append h [] b = refl
 kept_append h (c ∷ cs) b =
     elim (eqb c 10) as (λ t. cond t (kept [] (cs ++ b)) (kept (take 81 (h ++ c ∷ [])) (cs ++ b)) ≡ kept (cond t (kept [] cs) (kept (take 81 (h ++ c ∷ [])) cs)) b)
@@ -73,7 +65,7 @@ kept_rest h (b ∷ bs) =
     ]
 
 -- from the start, these are the lines of the input
-whole_lines : (bs : List ℕ) → (fed [] bs ≡ lines_of bs) × (kept [] bs ≡ rest_of bs)
+pub whole_lines : (bs : List ℕ) → (fed [] bs ≡ lines_of bs) × (kept [] bs ≡ rest_of bs)
 whole_lines bs = (fed_lines [] bs ∙ ap (λ (gs : List (List ℕ)). map (take 81) (but_last gs)) (before_none bs), kept_rest [] bs ∙ ap (λ (gs : List (List ℕ)). take 81 (last_part gs)) (before_none bs))
 
 -- what was fed before has left its rest

@@ -22,7 +22,7 @@ module _ {S : Type 0} (handled : S → List ℕ → S → Type 0) where
   starts s h chunk = record { lines = []; calls = refl; ahead = refl; rest = refl }
 
   module _ (first : S) (h₀ chunk : List ℕ) (i : ℕ) (at : S) (h : List ℕ) (so : Sofar handled first h₀ chunk i at h) where
-    line_more : (next : S) (h' : List ℕ) → i < length chunk → get_or chunk i 0 ≡ 10 → handled at h next → h' ≡ [] → Sofar handled first h₀ chunk (i + 1) next h'
+    pub line_more : (next : S) (h' : List ℕ) → i < length chunk → get_or chunk i 0 ≡ 10 → handled at h next → h' ≡ [] → Sofar handled first h₀ chunk (i + 1) next h'
     line_more next h' lt feed t none =
         subst (Sofar handled first h₀ chunk (i + 1) next) (sym none)
         (record {
@@ -37,7 +37,7 @@ module _ {S : Type 0} (handled : S → List ℕ → S → Type 0) where
     line_came next last ℓ h' lt feed t same is none =
         line_more next h' lt feed (subst (λ (z : S). handled at h z) (sym is) (subst (λ (l : List ℕ). handled at l last) same t)) none
 
-    byte_more : (h' : List ℕ) → i < length chunk → (get_or chunk i 0 ≡ 10 → ⊥) → h' ≡ take 81 (h ++ get_or chunk i 0 ∷ []) → Sofar handled first h₀ chunk (i + 1) at h'
+    pub byte_more : (h' : List ℕ) → i < length chunk → (get_or chunk i 0 ≡ 10 → ⊥) → h' ≡ take 81 (h ++ get_or chunk i 0 ∷ []) → Sofar handled first h₀ chunk (i + 1) at h'
     byte_more h' lt other is =
         subst (Sofar handled first h₀ chunk (i + 1) at) (sym is)
         (record {

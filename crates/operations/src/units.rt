@@ -11,6 +11,7 @@ use holders::agenda::Agenda;
 use holders::holder::Holder;
 
 // The next root, of so many, is this number: its current form is greyed, and is the answer.
+#[inline(always)]
 fn take_root(collector: &mut Collector, number: u32, roots: u16) -> u32
     ensures heap { heap_of collector.new ≡ root_unit_by (heap_of collector.old) roots (current (heap_of collector.old).pages number) (heap_of collector.old).phase }
     ensures form { result ≡ current (heap_of collector.old).pages number }

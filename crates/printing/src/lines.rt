@@ -5,8 +5,7 @@ ghost use Rattle.calls.specs.Spelling.{call_line, tabbed};
 ghost use Rattle.script.specs.Lines.{is_call, meaning};
 ghost use Rattle.printing.specs.Replies.{no_call_line, letter_of_refusal, reply_line};
 
-use crate::numbered::{LONGEST, numbered};
-use arrayvec::ArrayVec;
+use crate::numbered::put_numbered;
 use calls::{Answer, Call, Refusal};
 use std::alloc::{AllocError, Global};
 
@@ -18,28 +17,34 @@ fn letter_byte(call: &Call) -> u8
     call.letter() as u8
 }
 
-// The reply to a call that is granted: ok, and the numbers of the answer.
-fn granted(letter: u8, answer: &Answer) -> ArrayVec<u8, LONGEST>
-    ensures { result.items ≡ reply_line letter (Ok answer.now) }
+// The line of a call that is granted: ok, and the numbers of the answer.
+fn put_granted(out: &mut Vec<u8>, letter: u8, answer: &Answer)
+    requires { vec_len out.old + 49 ≤ vec_capacity out.old }
+    ensures { out.new.items ≡ out.old.items ++ (reply_line letter (Ok answer.now) ++ 10 ∷ []) }
 {
     let first = [letter, b'\t', b'o', b'k'];
     match answer {
-        Answer::Done => numbered(&first, &[]),
-        Answer::Word(word) => numbered(&first, &[*word]),
-        Answer::Same(same) => numbered(&first, &[u32::from(*same)]),
-        Answer::Shape { references, words } => numbered(&first, &[*references, *words]),
-        Answer::Time(time) => numbered(&first, &[*time]),
+        Answer::Done => put_numbered(out, &first, &[], b"\n"),
+        Answer::Word(word) => put_numbered(out, &first, &[*word], b"\n"),
+        Answer::Same(same) => put_numbered(out, &first, &[u32::from(*same)], b"\n"),
+        Answer::Shape { references, words } => put_numbered(
+            out,
+            &first,
+            &[*references, *words],
+            b"\n",
+        ),
+        Answer::Time(time) => put_numbered(out, &first, &[*time], b"\n"),
         Answer::Progress {
             done,
             total,
             unfinished,
-        } => numbered(&first, &[*done, *total, u32::from(*unfinished)]),
+        } => put_numbered(out, &first, &[*done, *total, u32::from(*unfinished)], b"\n"),
         Answer::Counts {
             current,
             husks,
             uncut,
             closed,
-        } => numbered(&first, &[*current, *husks, *uncut, *closed]),
+        } => put_numbered(out, &first, &[*current, *husks, *uncut, *closed], b"\n"),
     }
 }
 
@@ -53,17 +58,19 @@ fn refused_letter(letter: u8, refusal: &Refusal) -> u8
     }
 }
 
-// The reply to a call that is refused: no, and the number of the refusal.
-fn refused(letter: u8, refusal: &Refusal) -> ArrayVec<u8, LONGEST>
-    ensures { result.items ≡ reply_line letter (Err refusal.now) }
+// The line of a call that is refused: no, and the number of the refusal.
+fn put_refused(out: &mut Vec<u8>, letter: u8, refusal: &Refusal)
+    requires { vec_len out.old + 49 ≤ vec_capacity out.old }
+    ensures { out.new.items ≡ out.old.items ++ (reply_line letter (Err refusal.now) ++ 10 ∷ []) }
 {
     let first = [refused_letter(letter, refusal), b'\t', b'n', b'o'];
-    numbered(&first, &[refusal.number()])
+    put_numbered(out, &first, &[refusal.number()], b"\n")
 }
 
 // The line of a call: its letter, and its numbers, each of 32 bits.
-fn asked(call: &Call) -> ArrayVec<u8, LONGEST>
-    ensures line { result.items ≡ call_line call.now }
+fn put_asked(out: &mut Vec<u8>, call: &Call)
+    requires { vec_len out.old + 34 ≤ vec_capacity out.old }
+    ensures line { out.new.items ≡ out.old.items ++ call_line call.now }
     ensures words { Words (numbers_of call.now) }
 {
     let first = [letter_byte(call)];
@@ -72,28 +79,33 @@ fn asked(call: &Call) -> ArrayVec<u8, LONGEST>
             place,
             references,
             words,
-        } => numbered(&first, &[*place, *references, *words]),
+        } => put_numbered(out, &first, &[*place, *references, *words], b""),
         Call::Load {
             into,
             from,
             reference,
-        } => numbered(&first, &[*into, *from, *reference]),
+        } => put_numbered(out, &first, &[*into, *from, *reference], b""),
         Call::Store {
             into,
             reference,
             from,
-        } => numbered(&first, &[*into, *reference, *from]),
-        Call::Read { from, word } => numbered(&first, &[*from, *word]),
-        Call::Write { into, word, value } => numbered(&first, &[*into, *word, *value]),
-        Call::Copy { into, from } => numbered(&first, &[*into, *from]),
-        Call::Clear { place } => numbered(&first, &[*place]),
-        Call::Same { left, right } => numbered(&first, &[*left, *right]),
-        Call::Shape { place } => numbered(&first, &[*place]),
-        Call::Schedule { time, place } => numbered(&first, &[*time, *place]),
-        Call::Next { into } => numbered(&first, &[*into]),
-        Call::Begin => numbered(&first, &[]),
-        Call::Step { units } => numbered(&first, &[*units]),
-        Call::Count => numbered(&first, &[]),
+        } => put_numbered(out, &first, &[*into, *reference, *from], b""),
+        Call::Read { from, word } => put_numbered(out, &first, &[*from, *word], b""),
+        Call::Write { into, word, value } => put_numbered(
+            out,
+            &first,
+            &[*into, *word, *value],
+            b"",
+        ),
+        Call::Copy { into, from } => put_numbered(out, &first, &[*into, *from], b""),
+        Call::Clear { place } => put_numbered(out, &first, &[*place], b""),
+        Call::Same { left, right } => put_numbered(out, &first, &[*left, *right], b""),
+        Call::Shape { place } => put_numbered(out, &first, &[*place], b""),
+        Call::Schedule { time, place } => put_numbered(out, &first, &[*time, *place], b""),
+        Call::Next { into } => put_numbered(out, &first, &[*into], b""),
+        Call::Begin => put_numbered(out, &first, &[], b""),
+        Call::Step { units } => put_numbered(out, &first, &[*units], b""),
+        Call::Count => put_numbered(out, &first, &[], b""),
     }
 }
 
@@ -102,7 +114,9 @@ pub fn call_line(heap: Global, call: &Call) -> Result<Vec<u8>, AllocError>
     ensures line { IfOk result (λ v. v.items ≡ call_line call.now) }
     ensures reads { IfOk result (λ v. meaning v.items ≡ is_call call.now) }
 {
-    Vec::from_slice(heap, asked(call).as_slice())
+    let mut line = Vec::with_capacity(heap, 34)?;
+    put_asked(&mut line, call);
+    Ok(line)
 }
 
 // The reply to a call, behind what is in a buffer; where there is no memory for it the buffer stays.
@@ -114,12 +128,14 @@ pub fn add_reply(
     ensures items { out.new.items ≡ (if is_ok result then out.old.items ++ (reply_line (letter_of call.now) answer.now ++ 10 ∷ []) else out.old.items) }
     ensures succeeds { vec_len out.old + 49 ≤ vec_capacity out.old → is_ok result ≡ true }
 {
+    // the longest line is that of four numbers behind four bytes, and its line feed
+    out.reserve(49)?;
     let letter = letter_byte(call);
-    let line = match answer {
-        Ok(answer) => granted(letter, answer),
-        Err(refusal) => refused(letter, refusal),
-    };
-    add_line(out, line.as_slice())
+    match answer {
+        Ok(answer) => put_granted(out, letter, answer),
+        Err(refusal) => put_refused(out, letter, refusal),
+    }
+    Ok(())
 }
 
 // A line of other bytes, likewise.

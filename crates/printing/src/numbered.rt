@@ -1,24 +1,35 @@
-// Numbers behind the first bytes of a line.
-ghost use Rattle.std.specs.Prelude.{◌≡◌, ◌+◌, ◌*◌, ◌≤◌, ◌++◌, length};
+// Numbers between the first and the last bytes of a line.
+ghost use Rattle.std.specs.Prelude.{◌≡◌, ◌+◌, ◌*◌, ◌≤◌, ◌++◌, length, vec_len, vec_capacity, decimal};
 ghost use Rattle.calls.specs.Spelling.{tabbed};
 
-use arrayvec::ArrayVec;
 use itoa::Buffer;
 
-// The longest line is that of four numbers behind four bytes.
-pub(crate) const LONGEST: usize = 48;
-
-// The first bytes of a line, and each number behind a tab. All of it fits.
-pub(crate) fn numbered(first: &[u8], numbers: &[u32]) -> ArrayVec<u8, LONGEST>
-    requires { length first.now + 11 * length numbers.now ≤ LONGEST }
-    ensures { result.items ≡ first.now ++ tabbed numbers.now }
+// A number in decimal, behind what is in a buffer that has room for it. One digit, which most numbers have, is one byte.
+fn put_decimal(out: &mut Vec<u8>, n: u32)
+    requires { vec_len out.old + 10 ≤ vec_capacity out.old }
+    ensures items { out.new.items ≡ out.old.items ++ decimal n }
+    ensures few { vec_len out.new ≤ vec_len out.old + 10 }
+    ensures capacity { vec_capacity out.old ≤ vec_capacity out.new }
 {
-    let mut line = ArrayVec::new();
-    let mut digits = Buffer::new();
-    let _ = line.try_extend_from_slice(first);
-    for number in numbers {
-        line.push(b'\t');
-        let _ = line.try_extend_from_slice(digits.format(*number).as_bytes());
+    if n < 10 {
+        let _ = out.push(b'0' + n as u8);
+    } else {
+        let mut digits = Buffer::new();
+        let _ = out.extend_from_slice(digits.format(n).as_bytes());
     }
-    line
+}
+
+// The first bytes of a line, each number behind a tab, and the last bytes, behind what is in a buffer that has room for them.
+// Straight into the buffer: put together in an ArrayVec and then copied, a short reply takes half as long again.
+#[inline(always)]
+pub(crate) fn put_numbered(out: &mut Vec<u8>, first: &[u8], numbers: &[u32], last: &[u8])
+    requires { vec_len out.old + (length first.now + 11 * length numbers.now + length last.now) ≤ vec_capacity out.old }
+    ensures { out.new.items ≡ out.old.items ++ (first.now ++ (tabbed numbers.now ++ last.now)) }
+{
+    let _ = out.extend_from_slice(first);
+    for number in numbers {
+        let _ = out.push(b'\t');
+        put_decimal(out, *number);
+    }
+    let _ = out.extend_from_slice(last);
 }

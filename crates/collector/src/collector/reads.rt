@@ -93,6 +93,13 @@ impl Collector {
         self.tracing.heap.husks()
     }
 
+    // How many blocks are occupied: the current blocks and the husks.
+    pub fn occupied_blocks(&self) -> u32
+        ensures { result ≡ count_of_current_blocks (heap_of self.now).pages + husks (heap_of self.now).pages }
+    {
+        self.tracing.heap.occupied_blocks()
+    }
+
     // How many pages are uncut.
     pub fn uncut_pages(&self) -> u32
         ensures { result ≡ count_pages is_uncut (heap_of self.now).pages }

@@ -64,6 +64,14 @@ impl Heap {
         (0..64).map(|page| self.husks_in(page)).sum()
     }
 
+    // How many blocks are occupied: the current blocks and the husks.
+    pub fn occupied_blocks(&self) -> u32
+        ensures count { result ≡ occupied_blocks (view self.now) }
+        ensures together { count_of_current_blocks (view self.now) + husks (view self.now) ≡ result }
+    {
+        (0..64).map(|page| self.pages.used(page)).sum()
+    }
+
     // How many pages are uncut.
     pub fn uncut_pages(&self) -> u32
         ensures { result ≡ count_pages is_uncut (view self.now) }
