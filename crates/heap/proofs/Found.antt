@@ -309,6 +309,12 @@ put_number ps g s b h =
     let y : s ≡ slot_of (number g s) = omega arith in
     ap₂ (λ (i j : ℕ). put_at ps i j b) x y
 
+-- a block of another page is put in
+pub block_beside : (ps : List Page) (n m : ℕ) (b : Block) → (page_of m ≡ page_of n → ⊥) → block_at (put_block ps n b) m ≡ block_at ps m
+block_beside ps n m b ne =
+    ap (λ (p : Page). cond (eqb m 0) None (get_or p.slots (slot_of m) None))
+    (get_or-set_other ps (page_of n) (page_of m) (with_slots (page_at ps (page_of n)) (set (page_at ps (page_of n)).slots (slot_of n) (Some b))) uncut ne)
+
 -- entries that have no block that was not there before
 pub none_new_fits : (es fs : List Entry) (wss : List (List ℕ)) → NoneNew es fs → Fits es wss → Fits fs wss
 none_new_fits es fs wss none fits g s l on =

@@ -1,14 +1,14 @@
 -- What a write leaves of a block, of its page, and of a page's view.
-use Rattle.std.proofs.Common.{◌≡◌, ℕ, suc, ◌+◌, ◌-◌, ◌*◌, ◌/◌, ◌%◌, ◌<◌, ◌≤◌, Bool, true, cond, ◌≢◌, List, [], ◌∷◌, length, get_or, take, drop, set, replicate, Some, None, Option, sym, refl, ap, ◌∙◌, ap₂, inl, inr, mul-le-mul_right, suc-mul, div-mul-le_self, arith, length-drop, length-take, get_or-drop, get_or-set_other, get_or-take, drop-drop, drop-set-lt, ext_get_or}
+use Rattle.std.proofs.Common.{◌≡◌, ℕ, suc, ◌+◌, ◌-◌, ◌*◌, ◌/◌, ◌%◌, ◌<◌, ◌≤◌, Bool, true, cond, ◌≢◌, List, [], ◌∷◌, length, get_or, take, drop, set, replicate, Some, None, Option, sym, refl, ap, ◌∙◌, ap₂, inl, inr, mul-le-mul_right, suc-mul, div-mul-le_self, arith, length-drop, length-take, get_or-drop, get_or-set_other, get_or-take, drop-drop, drop-set-lt, ext_get_or, false, length-set, get_or-set_same}
 use lib.ListN.{length-replicate, get_or-replicate}
 use lib.Seq.{take-set-lt, take-set-le, drop-set-add}
-use Rattle.std.proofs.lemmas.Bool.{cases_lt}
+use Rattle.std.proofs.lemmas.Bool.{cases_lt, cases_eq}
 use Rattle.model.specs.Classes.{blocks}
 use Rattle.model.specs.Maps.{has}
 use Rattle.model.specs.Pages.{Block, with_slots}
 use Rattle.model.specs.Units.{with_refs, with_forward}
 use Rattle.pages.specs.View.{region, refs_in, words_in, block_of, slot_view, page_view}
-use Rattle.pages.proofs.Views.{set_counted}
+use Rattle.pages.proofs.Views.{set_counted, same_counted}
 use Rattle.heap.specs.Blocks.{Cleared}
 
 -- ---- regions
@@ -123,6 +123,22 @@ module _ (m : Bool) (rs : List ℕ) where
   words_at w h =
       get_or-take (words_in rs) (drop (refs_in rs) (drop 2 rs)) w 0 h ∙ get_or-drop (refs_in rs) (drop 2 rs) w 0 ∙ get_or-drop 2 rs (refs_in rs + w) 0
 
+-- ---- a write into a block that is free
+
+pub free_page : (size : ℕ) (closed : Bool) (o m : ℕ) (ws : List ℕ) (s j v : ℕ) → has o s ≡ false → j < size
+    → page_view size closed o m (set ws (s * size + j) v) ≡ page_view size closed o m ws
+unfolding page_view slot_view
+free_page size closed o m ws s j v off h =
+    ap (λ (x : List (Option Block)). record { size = size; closed = closed; slots = x })
+    (same_counted (slot_view size o m (set ws (s * size + j) v)) (slot_view size o m ws)
+    (λ k. elim (cases_eq k s) [
+      | inl e ↦
+          let q : has o k ≡ false = ap (has o) e ∙ off in
+          ap (λ (x : Bool). cond x (Some (block_of (has m k) (region size (set ws (s * size + j) v) k))) None) q
+          ∙ sym (ap (λ (x : Bool). cond x (Some (block_of (has m k) (region size ws k))) None) q)
+      | inr ne ↦ ap (λ (y : List ℕ). cond (has o k) (Some (block_of (has m k) y)) None) (region_there size ws s j v k h ne)
+    ]) 0 (blocks size))
+
 -- ---- a new block
 
 zeros : (xs : List ℕ) (a n : ℕ) → a + n ≤ length xs → ((k : ℕ) → a ≤ k → k < a + n → get_or xs k 0 ≡ 0) → take n (drop a xs) ≡ replicate n 0
@@ -148,6 +164,25 @@ new_block_is m rs n r d h l c =
     ∙ zeros rs (2 + r) d (omega arith) (λ k p q. c.rest k (omega arith) (omega arith)) in
     ap (λ (x : ℕ). record { forward = x; marked = m; refs = take (refs_in rs) (drop 2 rs); words = take (words_in rs) (drop (refs_in rs) (drop 2 rs)) }) f
     ∙ ap₂ (λ (x y : List ℕ). record { forward = n; marked = m; refs = x; words = y }) er ew
+
+-- ---- the words of a new block, written one by one
+
+pub cleared_two : (rs : List ℕ) (n sh : ℕ) → 1 < length rs → Cleared (set (set rs 0 n) 1 sh) n sh 2
+cleared_two rs n sh h = record {
+  first = get_or-set_other (set rs 0 n) 1 0 sh 0 (λ e. omega arith) ∙ get_or-set_same rs 0 n 0 (omega arith);
+  second = let l = length-set rs 0 n in get_or-set_same (set rs 0 n) 1 sh 0 (omega arith);
+  rest = λ k p q. absurd (omega arith);
+}
+
+pub cleared_more : (rs : List ℕ) (n sh j : ℕ) → Cleared rs n sh j → 2 ≤ j → j < length rs → Cleared (set rs j 0) n sh (j + 1)
+cleared_more rs n sh j c l h = record {
+  first = get_or-set_other rs j 0 0 0 (λ e. omega arith) ∙ c.first;
+  second = get_or-set_other rs j 1 0 0 (λ e. omega arith) ∙ c.second;
+  rest = λ k p q. elim (cases_eq k j) [
+    | inl e ↦ ap (λ (x : ℕ). get_or (set rs j 0) x 0) e ∙ get_or-set_same rs j 0 0 h
+    | inr ne ↦ get_or-set_other rs j k 0 0 ne ∙ c.rest k p (omega (arith, ne))
+  ];
+}
 
 pub cleared_less : (rs : List ℕ) (n sh j len : ℕ) → Cleared rs n sh j → len ≤ j → Cleared rs n sh len
 cleared_less rs n sh j len c l = record { first = c.first; second = c.second; rest = λ k p q. c.rest k p (omega arith) }

@@ -1,12 +1,12 @@
 -- Laws of bit maps.
-use Rattle.std.proofs.Common.{◌≡◌, ℕ, zero, suc, ◌+◌, ◌-◌, ◌/◌, ◌%◌, ◌^◌, ◌<◌, ◌≤◌, Bool, true, false, cond, ◌&&◌, ◌||◌, eqb, ◌≢◌, List, [], ◌∷◌, map, get_or, is_some, Some, None, Option, sym, refl, ap, ◌∙◌, subst, ap₂, inl, inr, lt_of_lt_of_le, pow-suc, zero-add, one-add, arith, pow_pos, pow_mono, pow-add, shr-shr}
+use Rattle.std.proofs.Common.{◌≡◌, ℕ, zero, suc, ◌+◌, ◌-◌, ◌*◌, ◌/◌, ◌%◌, ◌^◌, ◌<◌, ◌≤◌, Bool, true, false, cond, not, ◌&&◌, ◌||◌, eqb, ◌≢◌, List, [], ◌∷◌, map, get_or, is_some, Some, None, Option, sym, refl, ap, ◌∙◌, subst, ap₂, inl, inr, lt_of_lt_of_le, mod-lt, add-mul, pow-suc, zero-add, one-add, arith, pow_pos, pow_mono, pow-add, shr-shr, shr_lt}
 use native.Mathlib.Nat.{div-eq_of_lt, div_self, mul-mod_left, zero-div}
 use lib.Arith.{bin_ind, lt-one}
 use lib.Bits.{bit_and, bit_or, and_shr, or_shr, and_mod, or_mod, or_lt}
 use lib.Count.{ones, ones_step, count_trailing_zeros, under}
-use lib.Pow.{shl-shr, pow-lt}
+use lib.Pow.{shl-shr, split, high, ones_split, pow-lt}
 use Rattle.std.specs.List.{range_with_len}
-use Rattle.std.proofs.lemmas.Bool.{cases_lt, cases_eq, both_ways, or_right, ne_eqb}
+use Rattle.std.proofs.lemmas.Bool.{cases_lt, cases_eq, both_ways, or_right, and_right, ne_eqb}
 use Rattle.model.specs.Maps.{has}
 use Rattle.model.specs.Pages.{occupied, lowest_free}
 
@@ -159,6 +159,57 @@ ones_test m =
       | inl e ↦ ap (λ (x : ℕ). eqb (ones x) 0) e ∙ sym (ap (λ (x : ℕ). eqb x 0) e)
       | inr n ↦ ne_eqb (ones m) 0 (λ z. n (ones_none m z)) ∙ sym (ne_eqb m 0 n)
     ]
+
+-- ---- a map with one flag less
+
+not_shr : (j k x : ℕ) → x < 2 ^ (j + k) → (2 ^ (j + k) - 1 - x) / 2 ^ k ≡ 2 ^ j - 1 - x / 2 ^ k
+not_shr j k x h =
+    let y : ℕ = x / 2 ^ k in
+    let r : ℕ = x % 2 ^ k in
+    let s : y * 2 ^ k + r ≡ x = split x k in
+    let rk : r < 2 ^ k = mod-lt x (pow_pos k) in
+    let yj : y < 2 ^ j = shr_lt j k h in
+    let o : 2 ^ (j + k) - 1 ≡ (2 ^ j - 1) * 2 ^ k + (2 ^ k - 1) = ones_split j k in
+    let m : (2 ^ j - 1 - y) * 2 ^ k + y * 2 ^ k ≡ (2 ^ j - 1) * 2 ^ k =
+    sym (add-mul (2 ^ j - 1 - y) y (2 ^ k)) ∙ ap (λ (z : ℕ). z * 2 ^ k) (let e : (2 ^ j - 1 - y) + y ≡ 2 ^ j - 1 = omega arith in e) in
+    let e : 2 ^ (j + k) - 1 - x ≡ (2 ^ j - 1 - y) * 2 ^ k + (2 ^ k - 1 - r) = omega arith in
+    let lo : 2 ^ k - 1 - r < 2 ^ k = omega arith in
+    ap (λ (z : ℕ). z / 2 ^ k) e ∙ high (2 ^ j - 1 - y) k lo
+
+not_digit : (x : ℕ) → x < 2 → eqb (1 - x) 1 ≡ not (eqb x 1)
+not_digit zero h = refl
+not_digit (suc zero) h = refl
+not_digit (suc (suc x)) h = absurd (omega arith)
+
+pub has_not : (w x k : ℕ) → x < 2 ^ w → k < w → has (2 ^ w - 1 - x) k ≡ not (has x k)
+unfolding has
+has_not w x k h l =
+    let j : ℕ = w - k - 1 in
+    let e : suc j + k ≡ w = omega arith in
+    let P : ℕ → Type 0 = λ v. x < 2 ^ v → eqb ((2 ^ v - 1 - x) / 2 ^ k % 2) 1 ≡ not (eqb (x / 2 ^ k % 2) 1) in
+    subst P e (by_suc j) h
+  where
+    by_suc : (j : ℕ) → x < 2 ^ (suc j + k) → eqb ((2 ^ (suc j + k) - 1 - x) / 2 ^ k % 2) 1 ≡ not (eqb (x / 2 ^ k % 2) 1)
+    by_suc j g =
+        let y : x / 2 ^ k < 2 ^ suc j = shr_lt (suc j) k g in
+        let p = pow-suc 2 j in
+        let q : (2 ^ suc j - 1 - x / 2 ^ k) % 2 ≡ 1 - x / 2 ^ k % 2 = omega arith in
+        ap (λ (z : ℕ). eqb (z % 2) 1) (not_shr (suc j) k x g) ∙ ap (λ (z : ℕ). eqb z 1) q ∙ not_digit (x / 2 ^ k % 2) (omega arith)
+
+and_true : (x : Bool) → (x && true) ≡ x
+and_true true = refl
+and_true false = refl
+
+pub has_less_same : (m s : ℕ) → s < 64 → has (bit_and m (2 ^ 64 - 1 - 2 ^ s)) s ≡ false
+has_less_same m s l =
+    has_and m (2 ^ 64 - 1 - 2 ^ s) s
+    ∙ and_right (has m s) (has (2 ^ 64 - 1 - 2 ^ s) s) (has_not 64 (2 ^ s) s (pow-lt l) l ∙ ap not (bit_same s))
+
+pub has_less_other : (m s k : ℕ) → s < 64 → k < 64 → k ≢ s → has (bit_and m (2 ^ 64 - 1 - 2 ^ s)) k ≡ has m k
+has_less_other m s k l h ne =
+    has_and m (2 ^ 64 - 1 - 2 ^ s) k
+    ∙ ap (λ (x : Bool). has m k && x) (has_not 64 (2 ^ s) k (pow-lt l) h ∙ ap not (bit_other s k ne))
+    ∙ and_true (has m k)
 
 -- ---- the lowest free place is free
 pub lowest_none : {A : Type 0} (xs : List (Option A)) → get_or xs (lowest_free xs) None ≡ None

@@ -162,7 +162,7 @@ pair_is : (t : Bool) (v a : ℕ) → pair_of (candidate_of t v a) ≡ cond t (So
 pair_is true v a = refl
 pair_is false v a = refl
 
-number_is : (t : Bool) (v a : ℕ) (c : Candidate) → candidate_of t v a ≡ Some c → c.number ≡ a
+pub number_is : (t : Bool) (v a : ℕ) (c : Candidate) → candidate_of t v a ≡ Some c → c.number ≡ a
 number_is true v a c e =
     let F : Option Candidate → ℕ = number_or in sym (ap F e)
   where
@@ -219,7 +219,7 @@ module _ (f : ℕ → Page → Bool) (m : Page → ℕ) where
   row_all (p ∷ ps) [] n h = absurd (omega arith)
   row_all (p ∷ ps) (x ∷ xs) n h = row_is 0 p ps x xs (omega arith) h
 
-  least_row : (ps : List Page) (row : List (Option Candidate)) → length row ≡ length ps
+  pub least_row : (ps : List Page) (row : List (Option Candidate)) → length row ≡ length ps
       → ((k : ℕ) → k < length ps → get_or row k None ≡ candidate_of (f k (page_at ps k)) (m (page_at ps k)) k) → least_candidate row ≡ least_page f m 0 ps
   least_row ps row n h =
       row_all ps row n

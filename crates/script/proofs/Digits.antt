@@ -10,7 +10,7 @@ use Rattle.std.proofs.lemmas.Bool.{cond-true, ne_eqb, leb-true, leb-false, le-le
 use Rattle.script.specs.Numerals.{digit, all_digits, unpadded, value_after, numeral}
 use Rattle.script.specs.Scanning.{digit_added, and_then, scanned}
 
-value_grows : (n : ℕ) (ds : List ℕ) → n ≤ value_after n ds
+pub value_grows : (n : ℕ) (ds : List ℕ) → n ≤ value_after n ds
 value_grows n [] = omega arith
 value_grows n (c ∷ cs) = omega (arith, value_grows (10 * n + (c - 48)) cs)
 
@@ -21,7 +21,7 @@ turn true false false g m k v p q = refl
 turn false a true g m k v p q = refl
 turn false a false g m k v p q = refl
 
-reads_is : (n : ℕ) (ds : List ℕ) → n ≤ 4294967295 → scanned n ds ≡ cond (all_digits ds && leb (value_after n ds) 4294967295) (Some (value_after n ds)) None
+pub reads_is : (n : ℕ) (ds : List ℕ) → n ≤ 4294967295 → scanned n ds ≡ cond (all_digits ds && leb (value_after n ds) 4294967295) (Some (value_after n ds)) None
 reads_is n [] h = sym (ap (λ (x : Bool). cond x (Some n) None) (le-leb n 4294967295 h))
 reads_is n (c ∷ cs) h =
     turn (digit c) (all_digits cs) (leb (10 * n + (c - 48)) 4294967295) (leb (value_after (10 * n + (c - 48)) cs) 4294967295) _ _ _
@@ -32,7 +32,7 @@ both : (w x : Bool) (o : Option ℕ) → cond w (cond x o None) None ≡ cond (w
 both true x o = refl
 both false x o = refl
 
-numeral_is : (ds : List ℕ) → numeral ds ≡ cond (unpadded ds) (scanned 0 ds) None
+pub numeral_is : (ds : List ℕ) → numeral ds ≡ cond (unpadded ds) (scanned 0 ds) None
 numeral_is ds = sym (both (unpadded ds) _ _) ∙ ap (λ (x : Option ℕ). cond (unpadded ds) x None) (sym (reads_is 0 ds (omega arith)))
 
 -- a fold that may break off, over the digits of a field: each call of the closure f adds a digit

@@ -14,7 +14,7 @@ use Rattle.std.proofs.lemmas.Iterator.Consumers.{YieldsList-so_far, YieldsList-t
 use Rattle.std.proofs.lemmas.Iterator.Splits.{YieldsList-from_slice_split}
 use Rattle.std.proofs.lemmas.List.{length-append}
 use Rattle.std.proofs.lemmas.List.Splits.{join_with_byte-slice_split}
-use Rattle.std.proofs.lemmas.Bool.{eq-eqb, cond-true, cond_both, eqb-true}
+use Rattle.std.proofs.lemmas.Bool.{eq-eqb, cond-true, cond_both, eqb-true, ne_eqb, cond-false}
 use Rattle.script.specs.Numerals.{numeral, numbers, with_number}
 use Rattle.script.specs.Lines.{named_call, call_of_fields}
 use Rattle.script.specs.Fields.{parted, fields}
@@ -107,6 +107,15 @@ single c (d ∷ ds) h =
     let same : fields (d ∷ ds) ≡ [] ∷ fields ds = cond-true (eqb d 9) _ _ (eq-eqb d 9 tab) in
     split_first c (d ∷ ds) (λ fs. named_call c (numbers (fields ds)) ≡ call_of_fields fs) (λ e. ap (λ k. named_call k (numbers (fields ds))) e)
     (ap (λ fs. call_of_fields (onto_first c fs)) (sym same))
+
+-- the first field is longer
+pub long : (c : ℕ) (rest : List ℕ) → (length rest ≡ 0 → ⊥) → (get_or rest 0 0 ≡ 9 → ⊥) → None ≡ call_of_fields (fields (c ∷ rest))
+long c [] some apart = absurd (some refl)
+long c (d ∷ ds) some apart =
+    let h = headed 9 ds in
+    let same : fields (d ∷ ds) ≡ onto_first d (fields ds) = cond-false (eqb d 9) _ _ (ne_eqb d 9 apart) in
+    split_first c (d ∷ ds) (λ fs. None ≡ call_of_fields fs) (λ e. refl)
+    (ap (λ fs. call_of_fields (onto_first c (onto_first d fs))) (sym h.2) ∙ ap (λ fs. call_of_fields (onto_first c fs)) (sym same))
 
 -- of a line that is split at tabs: the first field, and the road through the others
 pub first_yielded : {F : Type 0} (g : Mut F (Bor ℕ × Unit {0}) Bool) {f : F} (s t : Split ℕ F) (x : Bor (List ℕ)) (line : List ℕ) → split_rest s ≡ line → split_done s ≡ false → split_callee s ≡ f → ((y : ℕ) (b : Bool) (q : F) → CalledAt g f y b q → (q ≡ f) × (b ≡ eqb y 9)) → split_steps g s (Some x) t
