@@ -3,6 +3,9 @@ ghost use Rattle.std.specs.Prelude.{◌≡◌};
 ghost use Rattle.script.specs.Numerals.{numeral};
 ghost use Rattle.script.specs.Scanning.{scanned, digit_added};
 
+// No numeral has this digit before another.
+const ZERO: u8 = b'0';
+
 // The number after one more digit, where the byte is one and the number fits.
 fn with_digit(value: u32, b: u8) -> Option<u32>
     ensures { result ≡ digit_added value b }
@@ -25,7 +28,7 @@ pub(crate) fn numeral_of(field: &[u8]) -> Option<u32>
     let [first, rest @ ..] = field else {
         return None;
     };
-    if *first == b'0' && !rest.is_empty() {
+    if *first == ZERO && !rest.is_empty() {
         return None;
     }
     digits_of(field)

@@ -9,6 +9,9 @@ use crate::numeral::numeral_of;
 use arrayvec::ArrayVec;
 use calls::Call;
 
+// The most bytes that a line may have.
+const LONGEST: usize = 80;
+
 // The call of a line, if it is one: the first field is a letter, and each other field a number.
 fn call_in(line: &[u8]) -> Option<Call>
     ensures { result ≡ call_of_fields (fields line.now) }
@@ -30,7 +33,7 @@ pub fn read_line(line: &[u8]) -> Line<'_>
     ensures value { sense result ≡ meaning line.now }
     ensures exact { Exact line.now (sense result) }
 {
-    if line.len() > 80 {
+    if line.len() > LONGEST {
         return Line::NoCall;
     }
     if line.starts_with(b"#") {
